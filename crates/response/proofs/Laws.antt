@@ -5,6 +5,7 @@ pub use Rattle.response.proofs.AskedSteps.{asked-same}
 pub use Rattle.response.proofs.AtBells.{there-is}
 pub use Rattle.response.proofs.CallLabels.{called-is, called-label}
 pub use Rattle.response.proofs.CallLeads.{call-leads, next-address, next-inside}
+pub use Rattle.response.proofs.ComesToRest.{holds-where, over-later, over-window, split-at}
 pub use Rattle.response.proofs.Doors.{accepts-rests, counted-there, gate-there, same-queue}
 pub use Rattle.response.proofs.EachEvent.{holds-after}
 pub use Rattle.response.proofs.InterruptedThreads.{thread-left}
@@ -19,6 +20,7 @@ pub use Rattle.response.proofs.OwnSteps.{doors-apart, invoked-leaves}
 pub use Rattle.response.proofs.PlainPoints.{asks-none}
 pub use Rattle.response.proofs.Rung.{asks-of}
 pub use Rattle.response.proofs.Tended.{bell-there}
+pub use Rattle.response.proofs.TendedLines.{dealt-with}
 pub use Rattle.response.proofs.Ticks.{SameWork, running-thread, tick-same}
 pub use Rattle.response.proofs.Waiting.{same-thread}
 pub use Rattle.response.proofs.WaitingThreads.{WaitsAt, accepts-there, as_caller, as_sender, asks-there, called-there, here, leads-on, next-pc, same-bell}

@@ -40,6 +40,7 @@ pub mod Marks
 pub mod Tended
 pub mod PlainPoints
 pub mod AckCalls
+pub mod Resumed
 pub mod TendedSteps
 pub mod TendedLines
 pub mod ComesToRest

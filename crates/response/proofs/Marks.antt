@@ -7,8 +7,6 @@ use Rattle.std.proofs.lemmas.Bool.Decides.{eqb_tells}
 use Rattle.std.proofs.lemmas.Nat.{le_or_l, le_or_r}
 use Rattle.response.specs.Asking.{Asked, Takes, Polls, Rings, Acknowledges, Accepts, Looks, SendsTo, Calls, Tries, Answers, Asks_nothing}
 use Rattle.response.specs.Resting.{marks_for}
-use Rattle.response.specs.Weights.{waits_for_no_message}
-use Rattle.response.proofs.AskedNow.{may_wait}
 
 -- ---- marks
 
@@ -22,27 +20,26 @@ pub at-take : (number : ℕ) (here next : Bool) (asked : Asked) (o : ℕ) → as
 at-take number here next asked o is marked =
     let parts = and_parts here (not next) (sym (ap (marks_for number here next) is) ∙ marked) in (parts.0, unmarked next parts.1)
 
--- from a point that is not marked: an acknowledgement, or a call that does not wait, to a point that is not
+-- from a point that is not marked: an acknowledgement, or a point that is not
 pub data FromUnmarked (number : ℕ) (next : Bool) (asked : Asked) : Type 0 where
   acknowledges : asked ≡ Acknowledges number → FromUnmarked number next asked
-  goes_on : may_wait asked ≡ false → next ≡ false → FromUnmarked number next asked
+  goes_on : next ≡ false → FromUnmarked number next asked
 
-pub from-unmarked : (number : ℕ) (next : Bool) (asked : Asked) → waits_for_no_message asked ≡ true → marks_for number false next asked ≡ true
-    → FromUnmarked number next asked
-from-unmarked number next (Takes o) none marked = absurd (let clash : false ≡ true = marked in cc)
-from-unmarked number next (Acknowledges irq_line) none marked = elim (eqb_tells irq_line number) [
+pub from-unmarked : (number : ℕ) (next : Bool) (asked : Asked) → marks_for number false next asked ≡ true → FromUnmarked number next asked
+from-unmarked number next (Takes o) marked = absurd (let clash : false ≡ true = marked in cc)
+from-unmarked number next (Acknowledges irq_line) marked = elim (eqb_tells irq_line number) [
   | inl same ↦ acknowledges (ap Acknowledges same.1)
-  | inr apart ↦ goes_on refl (unmarked next (subst (λ (b : Bool). (if b then true else not next) ≡ true) apart.0 marked))
+  | inr apart ↦ goes_on (unmarked next (subst (λ (b : Bool). (if b then true else not next) ≡ true) apart.0 marked))
 ]
-from-unmarked number next (Polls o) none marked = goes_on refl (unmarked next marked)
-from-unmarked number next (Rings o) none marked = goes_on refl (unmarked next marked)
-from-unmarked number next (Accepts o replies) none marked = absurd (let clash : false ≡ true = none in cc)
-from-unmarked number next (Looks o) none marked = goes_on refl (unmarked next marked)
-from-unmarked number next (SendsTo o) none marked = absurd (let clash : false ≡ true = none in cc)
-from-unmarked number next (Calls o) none marked = absurd (let clash : false ≡ true = none in cc)
-from-unmarked number next (Tries o) none marked = goes_on refl (unmarked next marked)
-from-unmarked number next Answers none marked = goes_on refl (unmarked next marked)
-from-unmarked number next Asks_nothing none marked = goes_on refl (unmarked next marked)
+from-unmarked number next (Polls o) marked = goes_on (unmarked next marked)
+from-unmarked number next (Rings o) marked = goes_on (unmarked next marked)
+from-unmarked number next (Accepts o replies) marked = goes_on (unmarked next marked)
+from-unmarked number next (Looks o) marked = goes_on (unmarked next marked)
+from-unmarked number next (SendsTo o) marked = goes_on (unmarked next marked)
+from-unmarked number next (Calls o) marked = goes_on (unmarked next marked)
+from-unmarked number next (Tries o) marked = goes_on (unmarked next marked)
+from-unmarked number next Answers marked = goes_on (unmarked next marked)
+from-unmarked number next Asks_nothing marked = goes_on (unmarked next marked)
 
 -- so along an edge that asks nothing
 pub stays-unmarked : (number : ℕ) (here next : Bool) (asked : Asked) → asked ≡ Asks_nothing → here ≡ false → marks_for number here next asked ≡ true

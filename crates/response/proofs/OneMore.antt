@@ -54,7 +54,7 @@ module _ (laws : Laws) (steps : AnyStepGoesWell) (told : (a b : ThreadState) →
     → is_runnable (thread_at (state_after (described image) events) (tcb_of image u)).status ≡ false
     → (state_after (described image) events).objects queue ≡ Some (NotificationObject n) → n.word ≡ 0)
     (lines : (number : ℕ) → number < 64 → (a : IsAcknowledged image priority number)
-    → is_runnable (thread_at (state_after (described image) events) (tcb_of image a.thread)).status ≡ false
+    → is_runnable (thread_at (state_after (described image) events) (tcb_of image a.tended.thread)).status ≡ false
     → (state_after (described image) events).pending number ≡ false) (most : ℕ)
     (fit : RingsFit image priority w is_taken is_open most) (rest : at_rest image w is_taken is_open ≤ most) where
   abbrev s : State
@@ -91,7 +91,7 @@ module _ (laws : Laws) (steps : AnyStepGoesWell) (told : (a b : ThreadState) →
   silent number among here =
       let few = few-lines number among in
       let a = acknowledged number few here in
-      lines number few a (stops a.thread a.listed a.level)
+      lines number few a (stops a.tended.thread a.tended.listed a.level)
 
   abbrev Rests : Type 0
   Rests = left image priority w (step s Step).0 (labels ++ (step s Step).1 ∷ []) ≤ most

@@ -177,26 +177,28 @@ module _ (image : Image) (priority : ℕ)
       let four = and_parts
       (list_all (λ (u : Numbered). asks_each image u (leaves bound.notification (tcb_of image u == tcb_of image t))) (numbered_threads image)) _ three.1 in
       record {
-        thread = t;
-        listed = listed;
         level = one.0;
-        queue = bound.notification;
-        badge = bound.badge;
-        bound = is;
-        some = λ zero_badge. absurd (let clash : false ≡ true = sym (ap not (eq-eqb bound.badge 0 zero_badge)) ∙ two.0 in cc);
         one = takes-one image t bound.notification three.0;
-        alone = λ u point state among inside known asks.
-            own u t among listed (eqb-true (tcb_of image u) (tcb_of image t)
-            (leaves-takes bound.notification (tcb_of image u == tcb_of image t) (asked_at image u.thread point state)
-            (asked-each image u (leaves bound.notification (tcb_of image u == tcb_of image t)) (others-leave t bound four.0 u among) point state inside
-            known) asks));
-        unpolled = λ u point state among inside known asks.
-            leaves-polls bound.notification (tcb_of image u == tcb_of image t) (asked_at image u.thread point state)
-            (asked-each image u (leaves bound.notification (tcb_of image u == tcb_of image t)) (others-leave t bound four.0 u among) point state inside
-            known) asks;
-        marks = l.marks;
-        marked = λ point state next inside known leads.
-            edge-passes image t (λ asked here after. marks_for l.line (l.marks here) (l.marks after) asked) four.1 point state next inside known leads;
+        tended = record {
+          thread = t;
+          listed = listed;
+          queue = bound.notification;
+          badge = bound.badge;
+          bound = is;
+          some = λ zero_badge. absurd (let clash : false ≡ true = sym (ap not (eq-eqb bound.badge 0 zero_badge)) ∙ two.0 in cc);
+          alone = λ u point state among inside known asks.
+              own u t among listed (eqb-true (tcb_of image u) (tcb_of image t)
+              (leaves-takes bound.notification (tcb_of image u == tcb_of image t) (asked_at image u.thread point state)
+              (asked-each image u (leaves bound.notification (tcb_of image u == tcb_of image t)) (others-leave t bound four.0 u among) point state inside
+              known) asks));
+          unpolled = λ u point state among inside known asks.
+              leaves-polls bound.notification (tcb_of image u == tcb_of image t) (asked_at image u.thread point state)
+              (asked-each image u (leaves bound.notification (tcb_of image u == tcb_of image t)) (others-leave t bound four.0 u among) point state inside
+              known) asks;
+          marks = l.marks;
+          marked = λ point state next inside known leads.
+              edge-passes image t (λ asked here after. marks_for l.line (l.marks here) (l.marks after) asked) four.1 point state next inside known leads;
+        };
       }
 
   by-binding : (l : OpenLine) (bound : Option Signal) → binding (described image) l.line ≡ bound → acknowledged_by_one image priority l bound ≡ true

@@ -27,7 +27,7 @@ use Rattle.headline.specs.moves.Laws.{Laws}
 use Rattle.response.specs.Asking.{asked_at}
 use Rattle.response.specs.Laws.{WaitsToTake}
 use Rattle.response.specs.Left.{point_now}
-use Rattle.response.specs.Resting.{IsAcknowledged}
+use Rattle.response.specs.Resting.{IsTended}
 use Rattle.response.proofs.AtBells.{there-is}
 use Rattle.response.proofs.Interrupts.{names-bound, put-at, put-off, thread-of, word-of}
 use Rattle.response.proofs.Marks.{at-take, badge-some, word-some}
@@ -42,7 +42,7 @@ bell-there image s labels all line b is =
     notification-kind (s.objects b.notification) (all.sound.memory.named (binding_slot s line) NewNotification b.notification
     (names-bound (capability_at s.slots (binding_slot s line)) b is))
 
-module _ (image : Image) (priority number : ℕ) (a : IsAcknowledged image priority number) where
+module _ (image : Image) (number : ℕ) (a : IsTended image number) where
   pub data Tended (s : State) : Type 0 where
     unmasked : s.masked number ≡ false → Tended s
     has_word : 1 ≤ word-of (s.objects a.queue) → Tended s
@@ -68,8 +68,8 @@ module _ (image : Image) (priority number : ℕ) (a : IsAcknowledged image prior
     pub same-tends : Tends s → Tends after
     same-tends tends = record { tended = by-tended tends.tended; masks = λ is. masked ∙ tends.masks (sym pending ∙ is) }
 
-module _ (laws : Laws) (bytes : List ℕ) (image : Image) (accepted : IsAccepted bytes image) (priority number : ℕ)
-    (a : IsAcknowledged image priority number) where
+module _ (laws : Laws) (bytes : List ℕ) (image : Image) (accepted : IsAccepted bytes image) (number : ℕ)
+    (a : IsTended image number) where
   abbrev tcb : ℕ
   tcb = tcb_of image a.thread
 
@@ -140,14 +140,14 @@ module _ (laws : Laws) (bytes : List ℕ) (image : Image) (accepted : IsAccepted
 
     -- ---- an interrupt of the line itself
 
-    module _ (tends : Tends image priority number a s) where
+    module _ (tends : Tends image number a s) where
       abbrev Keeps : State → Type 0
-      Keeps after = Tends image priority number a after
+      Keeps after = Tends image number a after
 
       pended : s.masked number ≡ true → Keeps (with_pending s number true)
       pended is = record { tended = by-tended tends.tended; masks = λ _. is }
         where
-          by-tended : Tended image priority number a s → Tended image priority number a (with_pending s number true)
+          by-tended : Tended image number a s → Tended image number a (with_pending s number true)
           by-tended (unmasked is_clear) = unmasked is_clear
           by-tended (has_word some) = has_word some
           by-tended (under_way way) = under_way way
@@ -167,7 +167,7 @@ module _ (laws : Laws) (bytes : List ℕ) (image : Image) (accepted : IsAccepted
             ∙ ap (λ (o : Option Object). ((thread-of o).registers.pc + 4) % 2 ^ 32) (put-off s.objects a.queue x (Some (NotificationObject fewer)) apart)
 
         by-waiters : (l : List ℕ) → n.waiters ≡ l
-            → Tended image priority number a (record (signals s a.queue a.badge n l) { masked = put s.masked number true })
+            → Tended image number a (record (signals s a.queue a.badge n l) { masked = put s.masked number true })
         by-waiters [] none =
             has_word (let word = ap word-of (put-at s.objects a.queue (Some (NotificationObject (record n { word = bit_or n.word a.badge })))) in
             let some = badge-some n.word a.badge a.some in omega (arith, some, word))
@@ -180,7 +180,7 @@ module _ (laws : Laws) (bytes : List ℕ) (image : Image) (accepted : IsAccepted
 
       interrupted : Keeps (interrupt s number (record { notification = a.queue; badge = a.badge }))
       interrupted = record {
-        tended = subst (λ (k : NotificationState). Tended image priority number a (record (signals s a.queue a.badge k k.waiters) {
+        tended = subst (λ (k : NotificationState). Tended image number a (record (signals s a.queue a.badge k k.waiters) {
           masked = put s.masked number true;
         })) (sym (ap (λ (o : Option Object). option_map_or (λ (k : NotificationState). k) (as_notification o) new_notification) queue-is.1))
             (by-waiters queue-is.0 queue-is.1 queue-is.0.waiters refl);
@@ -248,7 +248,7 @@ module _ (laws : Laws) (bytes : List ℕ) (image : Image) (accepted : IsAccepted
                 goes-unmarked s labels notification waits after
                 (ap (λ (o : Option Object). (thread-of o).registers.pc) is ∙ ap (λ (x : ThreadState). (x.registers.pc + 4) % 2 ^ 32) same)
 
-        left-tended : Tended image priority number a s → Tended image priority number a after
+        left-tended : Tended image number a s → Tended image number a after
         left-tended (unmasked is) = unmasked (w.masked number apart ∙ is)
         left-tended (has_word some) = has_word (word-left some)
         left-tended (under_way way) = under_way (way-left way)

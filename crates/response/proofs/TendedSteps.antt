@@ -1,8 +1,10 @@
 -- A line that is acknowledged, over one step: the thread that acknowledges it leaves its take with the interrupt to acknowledge, and comes back
 -- only once it has.
-use Rattle.std.proofs.Common.{ℕ, ◌≡◌, ◌≢◌, ◌∙◌, ◌⊎◌, ◌+◌, ◌-◌, ◌/◌, ◌%◌, ◌^◌, ◌≤◌, ◌++◌, inl, inr, Bool, true, false, Option, Some, None, List, []}
+use Rattle.std.proofs.Common.{ℕ, ◌≡◌, ◌≢◌, ◌∙◌, ◌⊎◌, ◌+◌, ◌-◌, ◌/◌, ◌%◌, ◌^◌, ◌≤◌, ◌++◌, inl, inr, Bool, true, false, if◌then◌else◌, Option}
+use Rattle.std.proofs.Common.{Some, None, List, []}
 use Rattle.std.proofs.Common.{◌∷◌, refl, sym, ap, subst, arith}
 use Rattle.std.specs.Prelude.{Contains}
+use Rattle.std.proofs.lemmas.Bool.{eq-eqb}
 use Rattle.std.proofs.lemmas.Bool.Decides.{eqb_tells}
 use Rattle.model.specs.declared.capabilities.Cap.{Cap}
 use Rattle.model.specs.declared.events.Event.TheVariants.{Step}
@@ -15,22 +17,20 @@ use Rattle.model.specs.Acceptance.Authority.{CallNames, IsSignalled, LineChange,
 use Rattle.model.specs.Acceptance.Authority.{taken, waits}
 use Rattle.model.specs.Acceptance.CallRules.{AfterCall}
 use Rattle.model.specs.Acceptance.NotedStates.{PointState}
-use Rattle.model.specs.Acceptance.ThreadInvariants.{tcb_of}
+use Rattle.model.specs.Acceptance.ThreadInvariants.{IsWaiting, ThreadInvariant, runs as invariant_runs, tcb_of, waits as invariant_waits}
 use Rattle.model.specs.Capabilities.Slots.{capability_at}
 use Rattle.model.specs.Images.Described.{Numbered, numbered_threads}
 use Rattle.model.specs.Images.Image.{Image}
 use Rattle.model.specs.Kernel.AddressSpaces.{with_content}
-use Rattle.model.specs.Kernel.Deliveries.{TakesWaiter, woken}
 use Rattle.model.specs.Kernel.Interrupts.{Signal, binding}
-use Rattle.model.specs.Kernel.Messages.{a0, with_registers}
+use Rattle.model.specs.Kernel.Messages.{with_registers}
 use Rattle.model.specs.Kernel.Scheduling.{current, is_runnable}
-use Rattle.model.specs.Kernel.State.{Blocked, NotificationObject, NotificationState, Object, Runnable, State, ThreadObject, ThreadState, as_notification}
-use Rattle.model.specs.Kernel.State.{new_notification, notification_at, thread_at}
+use Rattle.model.specs.Kernel.Soundness.{is_blocked_on, waiting_at, waits_at}
+use Rattle.model.specs.Shared.Lists.{times_in}
+use Rattle.model.specs.Kernel.State.{Blocked, Inactive, NotificationObject, NotificationState, Object, Runnable, State, ThreadObject, ThreadState}
+use Rattle.model.specs.Kernel.State.{as_thread, thread_at}
 use Rattle.model.specs.Kernel.Steps.{step}
-use Rattle.model.specs.Machine.Effects.{advanced}
-use Rattle.model.specs.Machine.ProgramMemory.{write}
 use Rattle.std.specs.Option.{option_map_or}
-use Rattle.soundness.proofs.Laws.{notification-kind}
 use Rattle.headline.proofs.Laws.{IsGiven, RunsAlong, at-place, goes-along, idle-is, step-cases}
 use Rattle.headline.proofs.Laws.{call-leaves}
 use Rattle.headline.specs.facts.Standing.{AllStand}
@@ -38,27 +38,31 @@ use Rattle.headline.specs.invocations.Laws.{AnyStepGoesWell, Laws}
 use Rattle.headline.specs.moves.Moving.{CallsAt}
 use Rattle.headline.specs.moves.Steps.{GoesWell, MakesCall}
 use Rattle.headline.specs.steps.Points.{ReachesNoCall}
-use Rattle.response.specs.Asking.{Asked, Polls, Takes, asked_at, asked_by}
+use Rattle.response.specs.Asking.{Accepts, Acknowledges, Answers, Asked, Asks_nothing, Calls, Looks, Polls, Rings, SendsTo, Takes, Tries, asked_at, asked_by}
 use Rattle.response.specs.Laws.{WaitsToTake}
 use Rattle.response.specs.Left.{point_now}
-use Rattle.response.specs.Resting.{IsAcknowledged, marks_for}
-use Rattle.response.specs.Weights.{waits_for_no_message}
+use Rattle.response.specs.Resting.{IsTended, marks_for}
 use Rattle.response.proofs.AckCalls.{Acked, acked, cleared, opened}
-use Rattle.response.proofs.AskedNow.{asked_now}
-use Rattle.response.proofs.AtBells.{LeftAs, WaitsForNoMessage, as_before, left-as, rung}
-use Rattle.response.proofs.AtRest.{rests-to-take, some-wait}
+use Rattle.response.proofs.AskedNow.{asked_now, may_wait}
+use Rattle.response.proofs.AtBells.{there-is}
 use Rattle.response.proofs.CallLabels.{own-count}
 use Rattle.response.proofs.CallLeads.{call-leads, next-address, next-inside}
 use Rattle.response.proofs.Interrupts.{put-at, put-off, thread-of, word-of}
 use Rattle.response.proofs.Marks.{at-take, acknowledges, from-unmarked, goes_on, stays-unmarked, word-some}
 use Rattle.response.proofs.NamedNow.{asks-so}
 use Rattle.response.proofs.OwnAuthority.{OwnAuthority, own-authority}
-use Rattle.response.proofs.OwnSteps.{goes-on}
+use Rattle.response.proofs.OneMessage.{accepts, calls, goes, sends, waits_so}
+use Rattle.response.proofs.OwnCalls.{pc_at}
+use Rattle.response.proofs.OwnMessages.{ReceiveEnds, SendEnds, TakeEnds, got_one, got_word, sent_awaits, sent_passed, sent_queued, sent_stopped}
+use Rattle.response.proofs.OwnMessages.{stays_on, stays_there}
 use Rattle.response.proofs.PlainPoints.{asks-none}
+use Rattle.response.proofs.Resumed.{Resumed, as_before, goes_next, resumed, set_again, waits_on}
 use Rattle.response.proofs.Rung.{asks-of, pended}
 use Rattle.response.proofs.Tended.{Delivered, Tended, Tends, bell-there, delivered-so, goes-unmarked, has_word, passed_on, same-tends, under_way, unmasked}
 use Rattle.response.proofs.Tended.{worded}
 use Rattle.response.proofs.Waiting.{same-thread}
+use Rattle.response.proofs.WaitingThreads.{WaitsAt, here as spot, leads-on, next-pc as waited-pc}
+use Rattle.response.proofs.WaysToWait.{WaitsBy, accepts_from, calls_there, sends_there, takes_word}
 use Rattle.response.proofs.Woken.{point-of}
 
 -- ---- a call that waits for a notification takes from it, or polls it
@@ -73,14 +77,14 @@ asks-word o Yields c w = absurd (let clash : false ≡ true = w.receives in cc)
 asks-word o PutsCharacter c w = absurd (let clash : false ≡ true = w.receives in cc)
 
 module _ (laws : Laws) (steps : AnyStepGoesWell) (told : (a b : ThreadState) → (a ≡ b) ⊎ (a ≢ b)) (bytes : List ℕ) (image : Image)
-    (accepted : IsAccepted bytes image) (priority number : ℕ) (a : IsAcknowledged image priority number)
+    (accepted : IsAccepted bytes image) (number : ℕ) (a : IsTended image number)
     (facts : (u : Numbered) → Contains (numbered_threads image) u → IsGiven image u) (s : State) (labels : List Label) (all : AllStand image s labels)
     (stay : StaysWithin image s Step (step s Step).0)
     (takes : (u : Numbered) (queue : ℕ) (n : NotificationState) (others : List ℕ) → Contains (numbered_threads image) u
     → s.objects queue ≡ Some (NotificationObject n) → n.waiters ≡ tcb_of image u ∷ others → WaitsToTake image u s labels queue)
     (bound : binding s number ≡ Some (record { notification = a.queue; badge = a.badge }))
     (later_bound : binding (step s Step).0 number ≡ Some (record { notification = a.queue; badge = a.badge }))
-    (tends : Tends image priority number a s) where
+    (tends : Tends image number a s) where
   abbrev tcb : ℕ
   tcb = tcb_of image a.thread
 
@@ -94,16 +98,13 @@ module _ (laws : Laws) (steps : AnyStepGoesWell) (told : (a b : ThreadState) →
   later = labels ++ (step s Step).1 ∷ []
 
   abbrev Keeps : State → Type 0
-  Keeps x = Tends image priority number a x
+  Keeps x = Tends image number a x
 
   abbrev Tended_now : State → Type 0
-  Tended_now x = Tended image priority number a x
+  Tended_now x = Tended image number a x
 
   well : GoesWell image s labels Step
   well = steps bytes image s labels accepted all
-
-  quiet : WaitsForNoMessage image a.thread
-  quiet point state inside known = (a.one point state inside known).0
 
   old_bell : (n : NotificationState) × (s.objects a.queue ≡ Some (NotificationObject n))
   old_bell = bell-there image s labels all number (record { notification = a.queue; badge = a.badge }) bound
@@ -112,8 +113,8 @@ module _ (laws : Laws) (steps : AnyStepGoesWell) (told : (a b : ThreadState) →
   new_bell = bell-there image after later well.stands number (record { notification = a.queue; badge = a.badge }) later_bound
 
   delivered : IsSignalled s after a.queue a.badge
-      → Delivered laws.below bytes image accepted priority number a s labels all takes bound after
-  delivered = delivered-so laws.below bytes image accepted priority number a s labels all takes bound after
+      → Delivered laws.below bytes image accepted number a s labels all takes bound after
+  delivered = delivered-so laws.below bytes image accepted number a s labels all takes bound after
 
   -- who takes is not who runs
   runs-no-waiter : (queue : ℕ) → WaitsToTake image a.thread s labels queue → (thread_at s tcb).status ≡ Runnable → ⊥
@@ -209,34 +210,60 @@ module _ (laws : Laws) (steps : AnyStepGoesWell) (told : (a b : ThreadState) →
 
   module _ (u : Numbered) (among : Contains (numbered_threads image) u) (now : current s ≡ Some (tcb_of image u))
       (apart : tcb_of image u ≢ tcb_of image a.thread) where
-    left : LeftAs image u a.thread s after
-    left = left-as laws.below bytes image s after labels later accepted all well.stands told u among (own u among now).within a.thread a.listed quiet
+    left : Resumed laws.below bytes image s after labels later accepted all well.stands told u (own u among now).within a.thread a.listed
+        (λ same. apart (sym same))
+    left =
+        resumed laws.below bytes image s after labels later accepted all well.stands told u (own u among now).within a.thread a.listed
         (λ same. apart (sym same))
 
-    rung-way : (o : ℕ) (before : ThreadState) (badge : ℕ) → TakesWaiter s after o (tcb_of image a.thread)
-        → s.objects (tcb_of image a.thread) ≡ Some (ThreadObject before)
-        → after.objects (tcb_of image a.thread) ≡ Some (ThreadObject (woken before (advanced (write before.registers a0 badge))))
-        → a.marks (point_now image after a.thread) ≡ false
-    rung-way o before badge first was is =
-        let found = notification-kind (s.objects o) first.was in
-        let head : found.0.waiters ≡ tcb ∷ (notification_at after o).waiters =
-        sym (ap (λ (x : Option Object). (option_map_or (λ (n : NotificationState). n) (as_notification x) new_notification).waiters) found.1) ∙ first.leaves in
-        let w = takes a.thread o found.0 (notification_at after o).waiters a.listed found.1 head in
-        let same : before ≡ w.own = same-thread (s.objects tcb) before w.own was w.there in
-        goes-unmarked laws.below bytes image accepted priority number a s labels o w after
-        (ap (λ (x : Option Object). (thread-of x).registers.pc) is ∙ ap (λ (x : ThreadState). (x.registers.pc + 4) % 2 ^ 32) same)
+    -- a thread that waits at a point that is not marked goes on to one that is not
+    module _ (before : ThreadState) (v : WaitsAt image a.thread s labels before) (way : a.marks (point_now image s a.thread) ≡ false) where
+      edge : marks_for number false (a.marks (v.point + 1)) (asked_at image a.thread.thread v.point v.state) ≡ true
+      edge =
+          subst (λ (b : Bool). marks_for number b (a.marks (v.point + 1)) (asked_at image a.thread.thread v.point v.state) ≡ true)
+          (ap a.marks (sym (spot laws.below bytes image s labels accepted all a.thread a.listed before v).0) ∙ way)
+          (a.marked v.point v.state (v.point + 1) v.stands.inside v.stands.known
+          (leads-on laws.below bytes image s labels accepted all a.thread a.listed before v))
 
-    way-left : LeftAs image u a.thread s after → a.marks (point_now image s a.thread) ≡ false → a.marks (point_now image after a.thread) ≡ false
+      no-ack : WaitsBy image a.thread.thread v.state v.left (asked_at image a.thread.thread v.point v.state)
+          → asked_at image a.thread.thread v.point v.state ≡ Acknowledges number → ⊥
+      no-ack (takes_word o r badge named asks_ end) is = let clash : Takes o ≡ Acknowledges number = sym asks_ ∙ is in absurd cc
+      no-ack (accepts_from o r badge replies named asks_ end) is = let clash : Accepts o replies ≡ Acknowledges number = sym asks_ ∙ is in absurd cc
+      no-ack (sends_there o r badge named asks_ end) is = let clash : SendsTo o ≡ Acknowledges number = sym asks_ ∙ is in absurd cc
+      no-ack (calls_there o r badge named asks_ end) is = let clash : Calls o ≡ Acknowledges number = sym asks_ ∙ is in absurd cc
+
+      next-unmarked : a.marks (v.point + 1) ≡ false
+      next-unmarked = elim (from-unmarked number (a.marks (v.point + 1)) (asked_at image a.thread.thread v.point v.state) edge) [
+        | acknowledges is ↦ absurd (no-ack v.way is)
+        | goes_on none ↦ none
+      ]
+
+    way-left : Resumed laws.below bytes image s after labels later accepted all well.stands told u (own u among now).within a.thread a.listed
+        (λ same. apart (sym same)) → a.marks (point_now image s a.thread) ≡ false → a.marks (point_now image after a.thread) ≡ false
     way-left (as_before alike) way = ap (λ (x : Option Object). a.marks (((thread-of x).registers.pc - base) / 4)) alike ∙ way
-    way-left (rung o badge before first names was is) way = rung-way o before badge first was is
+    way-left (goes_next before v pc) way =
+        ap a.marks (ap (λ (k : ℕ). (k - base) / 4) (pc ∙ waited-pc laws.below bytes image s labels accepted all a.thread a.listed before v)
+        ∙ point-of base (v.point + 1)) ∙ next-unmarked before v way
+    way-left (waits_on pc never) way = ap (λ (k : ℕ). a.marks ((k - base) / 4)) pc ∙ way
+    way-left (set_again queue blocked gone pc) way = ap (λ (k : ℕ). a.marks ((k - base) / 4)) pc ∙ way
 
-    woken-way : LeftAs image u a.thread s after → WaitsToTake image a.thread s labels a.queue → (thread_at after tcb).status ≡ Runnable
+    woken-way : Resumed laws.below bytes image s after labels later accepted all well.stands told u (own u among now).within a.thread a.listed
+        (λ same. apart (sym same)) → WaitsToTake image a.thread s labels a.queue → (thread_at after tcb).status ≡ Runnable
         → a.marks (point_now image after a.thread) ≡ false
     woken-way (as_before alike) w runs =
         absurd (runs-no-waiter a.queue w (sym (ap (λ (x : Option Object). (thread-of x).status) alike) ∙ runs))
-    woken-way (rung o badge before first names was is) w runs = rung-way o before badge first was is
+    woken-way (goes_next before v pc) w runs =
+        goes-unmarked laws.below bytes image accepted number a s labels a.queue w after
+        (pc ∙ ap (λ (x : ThreadState). (x.registers.pc + 4) % 2 ^ 32) (same-thread (s.objects tcb) before w.own v.there w.there))
+    woken-way (waits_on pc never) w runs = absurd (never runs)
+    woken-way (set_again queue blocked gone pc) w runs =
+        let both : Blocked a.queue ≡ Blocked queue =
+        sym w.status ∙ sym (ap (λ (x : ThreadState). x.status) (at-place s tcb w.own w.there)) ∙ blocked in
+        let same : a.queue ≡ queue = cc in
+        let clash : ◌≡◌ {A = Option Object} None (Some (NotificationObject new_bell.0)) = sym gone ∙ ap after.objects (sym same) ∙ new_bell.1 in
+        absurd cc
 
-    by-delivered : Delivered laws.below bytes image accepted priority number a s labels all takes bound after → Tended_now after
+    by-delivered : Delivered laws.below bytes image accepted number a s labels all takes bound after → Tended_now after
     by-delivered (worded some) = has_word some
     by-delivered (passed_on w runs) = under_way (woken-way left w runs)
 
@@ -291,7 +318,7 @@ module _ (laws : Laws) (steps : AnyStepGoesWell) (told : (a b : ThreadState) →
     other-plain : tcb_of image u ≢ tcb_of image a.thread → Keeps after
     other-plain apart =
         subst Keeps (sym (RunsAlong.goes run).after)
-        (same-tends image priority number a s moved refl refl moved-word
+        (same-tends image number a s moved refl refl moved-word
         (ap (λ (x : Option Object). (thread-of x).registers.pc) (put-off s.objects (tcb_of image u) tcb new (λ same. apart (sym same)))) tends)
 
   -- ---- its own steps
@@ -337,9 +364,6 @@ module _ (laws : Laws) (steps : AnyStepGoesWell) (told : (a b : ThreadState) →
       asks_it : asked_at image a.thread.thread point state ≡ asked_now s (tcb_of image a.thread)
       asks_it = asks a.thread a.listed now mine point state answer at
 
-      none : waits_for_no_message asked ≡ true
-      none = sym (ap waits_for_no_message asks_it) ∙ quiet point state at.stands.inside at.stands.known
-
       marked : marks_for number (a.marks point) (a.marks (point + 1)) asked ≡ true
       marked = subst (λ (x : Asked). marks_for number (a.marks point) (a.marks (point + 1)) x ≡ true) asks_it
           (a.marked point state (point + 1) at.stands.inside at.stands.known
@@ -351,53 +375,115 @@ module _ (laws : Laws) (steps : AnyStepGoesWell) (told : (a b : ThreadState) →
       at-point : point_now image s a.thread ≡ point
       at-point = ap (λ (x : ThreadState). (x.registers.pc - base) / 4) same-own ∙ ap (λ (k : ℕ). (k - base) / 4) at.stands.pc ∙ point-of base point
 
-      at-next : is_runnable (thread_at after tcb).status ≡ true → point_now image after a.thread ≡ point + 1
-      at-next runs =
+      at-next : pc_at after tcb ≡ (pc_at s tcb + 4) % 2 ^ 32 → point_now image after a.thread ≡ point + 1
+      at-next pc =
           ap (λ (k : ℕ). (k - base) / 4)
-          (goes-on laws bytes image s labels accepted all a.thread a.listed mine at.there at.status now makes none well.faults runs
-          ∙ ap (λ (x : ThreadState). (x.registers.pc + 4) % 2 ^ 32) same-own ∙ ap (λ (k : ℕ). (k + 4) % 2 ^ 32) at.stands.pc
+          (pc ∙ ap (λ (x : ThreadState). (x.registers.pc + 4) % 2 ^ 32) same-own ∙ ap (λ (k : ℕ). (k + 4) % 2 ^ 32) at.stands.pc
           ∙ next-address base a.thread.thread.header.words point (laws.below.ends bytes image a.thread accepted a.listed)
           (next-inside laws.below bytes image accepted a.thread a.listed point state answer at.stands.inside at.stands.known at.ecall at.call))
           ∙ point-of base (point + 1)
 
-      -- where it goes on to a point that is not marked, unless it waits
-      onward : a.marks (point + 1) ≡ false → (is_runnable (thread_at after tcb).status ≡ false → ⊥) → Tended_now after
-      onward next never = elim (is_runnable (thread_at after tcb).status) as (λ b. is_runnable (thread_at after tcb).status ≡ b → Tended_now after) [
-        | true ↦ λ runs. under_way (ap a.marks (at-next runs) ∙ next)
-        | false ↦ λ rests. absurd (never rests)
-      ] refl
+      -- where it goes on to a point that is not marked, and where it waits at one
+      onward : a.marks (point + 1) ≡ false → pc_at after tcb ≡ (pc_at s tcb + 4) % 2 ^ 32 → Tended_now after
+      onward next pc = under_way (ap a.marks (at-next pc) ∙ next)
 
-      rests-now : is_runnable (thread_at after tcb).status ≡ false → WaitsToTake image a.thread after later a.queue
-      rests-now = rests-to-take laws.below bytes image after later accepted well.stands a.thread a.listed a.queue a.one
+      stays-here : a.marks (point_now image s a.thread) ≡ false → pc_at after tcb ≡ pc_at s tcb → Tended_now after
+      stays-here way pc = under_way (ap (λ (k : ℕ). a.marks ((k - base) / 4)) pc ∙ way)
 
-      by-delivery : Delivered laws.below bytes image accepted priority number a s labels all takes bound after → Tended_now after
+      -- it takes the word
+      taken-ends : a.marks (point + 1) ≡ false → (fresh : NotificationState) → after.objects a.queue ≡ Some (NotificationObject fresh)
+          → fresh.waiters ≡ [] → TakeEnds s tcb a.queue after → Tended_now after
+      taken-ends next fresh is nobody (got_word runs pc) = onward next pc
+      taken-ends next fresh is nobody (stays_on status pc) =
+          let mine_now = there-is image a.thread after later (well.stands.stand a.thread a.listed) in
+          let waits_here : waits_at after tcb a.queue ≡ true =
+          ap (λ (x : Option Object). option_map_or (λ u. is_blocked_on a.queue u.status) (as_thread x) false) mine_now.1
+          ∙ ap (is_blocked_on a.queue) (sym (ap (λ (x : ThreadState). x.status) (at-place after tcb mine_now.0 mine_now.1)) ∙ status)
+          ∙ eq-eqb a.queue a.queue refl in
+          let counted : times_in [] tcb ≡ 1 =
+          sym (ap (λ (l : List ℕ). times_in l tcb) nobody) ∙ ap (λ (l : List ℕ). times_in l tcb) (sym (ap waiting_at is))
+          ∙ well.stands.sound.threads.queued tcb a.queue ∙ ap (λ (b : Bool). if b then 1 else 0) waits_here in
+          absurd (omega (arith, counted))
+
+      by-delivery : Delivered laws.below bytes image accepted number a s labels all takes bound after → Tended_now after
       by-delivery (worded some) = has_word some
       by-delivery (passed_on w runs) = absurd (runs-no-waiter a.queue w (ap (λ (x : ThreadState). x.status) same-own ∙ at.status))
 
       by-left : WordLeft a.thread a.listed now → Tended_now after
       by-left (stands some) = has_word some
       by-left (taken_by names fresh is nobody) =
-          onward (at-take number (a.marks point) (a.marks (point + 1)) asked a.queue
-          (who-takes a.thread a.listed now mine point state answer at names).1 marked).1
-          (λ rests. some-wait laws.below bytes image after later accepted well.stands a.thread a.listed a.queue a.one fresh is (rests-now rests) nobody)
+          let who = who-takes a.thread a.listed now mine point state answer at names in
+          taken-ends (at-take number (a.marks point) (a.marks (point + 1)) asked a.queue who.1 marked).1 fresh is nobody
+          (waits_so laws steps told bytes image accepted s labels all stay a.thread a.listed now makes mine point state answer at a.queue who.1)
 
       by-ack : after.masked number ≡ true → Acked s number after → Tended_now after
       by-ack masked (opened is) = absurd (let clash : true ≡ false = sym masked ∙ is in cc)
       by-ack masked (cleared was is) =
           by-delivery (delivered (signalled a.thread a.listed now (inr (λ same. let clash : true ≡ false = sym was ∙ same ∙ is in absurd cc)) masked))
 
+      -- the thread is not stopped, and after a call that does not wait it runs
+      never-stops : (thread_at after tcb).status ≡ Inactive → ⊥
+      never-stops stops = by-invariant (well.stands.stand a.thread a.listed)
+        where
+          by-invariant : ThreadInvariant image a.thread after later → ⊥
+          by-invariant (invariant_runs other p st there status stood budget) =
+              let clash : Inactive ≡ Runnable = sym stops ∙ ap (λ (u : ThreadState). u.status) (at-place after tcb other there) ∙ status in absurd cc
+          by-invariant (invariant_waits other p st there status stood asks_ none) =
+              let never : IsWaiting Inactive =
+              subst IsWaiting (sym (ap (λ (u : ThreadState). u.status) (at-place after tcb other there)) ∙ stops) status in
+              never
+
+      free-runs : may_wait asked ≡ false → is_runnable (thread_at after tcb).status ≡ true
+      free-runs free = by-invariant (well.stands.stand a.thread a.listed)
+        where
+          by-invariant : ThreadInvariant image a.thread after later → is_runnable (thread_at after tcb).status ≡ true
+          by-invariant (invariant_runs other p st there status stood budget) =
+              ap (λ (u : ThreadState). is_runnable u.status) (at-place after tcb other there) ∙ ap is_runnable status
+          by-invariant (invariant_waits other p st there status stood asks_ none) =
+              absurd (let more = own-count image s labels a.thread now makes mine point state answer at free in omega (arith, more, none))
+
+      module _ (way : a.marks (point_now image s a.thread) ≡ false) (next : a.marks (point + 1) ≡ false) where
+        free-ends : may_wait asked ≡ false → Tended_now after
+        free-ends free =
+            onward next
+            (goes laws steps told bytes image accepted s labels all stay a.thread a.listed now makes mine point state answer at free (free-runs free))
+
+        sent-ends : (e : ℕ) (is_call : Bool) → SendEnds s tcb e is_call after → Tended_now after
+        sent-ends e is_call (sent_passed status pc) = onward next pc
+        sent-ends e is_call (sent_queued status pc q is nobody) = stays-here way pc
+        sent-ends e is_call (sent_awaits y rest status pc so first right) = stays-here way pc
+        sent-ends e is_call (sent_stopped status) = absurd (never-stops status)
+
+        received-ends : (e : ℕ) → ReceiveEnds s tcb e after → Tended_now after
+        received-ends e (got_one first others status pc head gone right) = onward next pc
+        received-ends e (stays_there status pc none) = stays-here way pc
+
+        by-asked : (x : Asked) → asked_now s tcb ≡ x → Tended_now after
+        by-asked (Takes o) is =
+            let at_take = at-take number (a.marks point) (a.marks (point + 1)) asked o is marked in
+            absurd (let clash : true ≡ false = sym at_take.0 ∙ sym (ap a.marks at-point) ∙ way in cc)
+        by-asked (Accepts o replies) is =
+            received-ends o (accepts laws steps told bytes image accepted s labels all stay a.thread a.listed now makes mine point state answer at o replies is)
+        by-asked (SendsTo o) is =
+            sent-ends o false (sends laws steps told bytes image accepted s labels all stay a.thread a.listed now makes mine point state answer at o is)
+        by-asked (Calls o) is =
+            sent-ends o true (calls laws steps told bytes image accepted s labels all stay a.thread a.listed now makes mine point state answer at o is)
+        by-asked (Polls o) is = free-ends (ap may_wait is)
+        by-asked (Rings o) is = free-ends (ap may_wait is)
+        by-asked (Acknowledges line) is = free-ends (ap may_wait is)
+        by-asked (Looks o) is = free-ends (ap may_wait is)
+        by-asked (Tries o) is = free-ends (ap may_wait is)
+        by-asked Answers is = free-ends (ap may_wait is)
+        by-asked Asks_nothing is = free-ends (ap may_wait is)
+
       by-way : after.masked number ≡ true → a.marks (point_now image s a.thread) ≡ false → Tended_now after
       by-way masked way =
-          elim (from-unmarked number (a.marks (point + 1)) asked none
+          elim (from-unmarked number (a.marks (point + 1)) asked
           (subst (λ (b : Bool). marks_for number b (a.marks (point + 1)) asked ≡ true) (ap a.marks (sym at-point) ∙ way) marked)) [
             | acknowledges is ↦
                 by-ack masked (acked laws bytes image s labels accepted all a.thread a.listed now number
                 (record { notification = a.queue; badge = a.badge }) bound is makes)
-            | goes_on free next ↦ onward next (λ rests.
-                let w = rests-now rests in
-                let zero_count = w.none in
-                let count = own-count image s labels a.thread now makes mine point state answer at free in
-                omega (arith, zero_count, count))
+            | goes_on next ↦ by-asked way next asked refl
           ]
 
       by-own : after.masked number ≡ true → s.masked number ≡ true → Tended_now s → Tended_now after
@@ -423,7 +509,7 @@ module _ (laws : Laws) (steps : AnyStepGoesWell) (told : (a b : ThreadState) →
 
   -- ---- any step
 
-  pub step-tends : Tends image priority number a (step s Step).0
+  pub step-tends : Tends image number a (step s Step).0
   step-tends =
       step-cases image s labels all (Keeps after) (λ idle. subst Keeps (sym (ap (λ (x : State × Label). x.0) (idle-is s idle))) tends)
       (λ u among now makes. elim (eqb_tells (tcb_of image u) tcb) [

@@ -64,7 +64,7 @@ module _ (image : Image) (priority : ℕ) (w : Weights) (rates : List Rate) (mos
     → is_runnable (thread_at (state_after (described image) before) (tcb_of image t)).status ≡ false
     → (state_after (described image) before).objects queue ≡ Some (NotificationObject n) → n.word ≡ 0)
     (lines : (before : List Event) → All (KeepsDevices image) before → (number : ℕ) → number < 64 → (a : IsAcknowledged image priority number)
-    → is_runnable (thread_at (state_after (described image) before) (tcb_of image a.thread)).status ≡ false
+    → is_runnable (thread_at (state_after (described image) before) (tcb_of image a.tended.thread)).status ≡ false
     → (state_after (described image) before).pending number ≡ false) where
   abbrev behind : List Event → State
   behind before = state_after (described image) before
@@ -120,7 +120,7 @@ module _ (image : Image) (priority : ℕ) (w : Weights) (rates : List Rate) (mos
       silent number among here =
           let few = few-lines number among in
           let a = acknowledged number few here in
-          lines before kept number few a (rests a.thread a.listed a.level)
+          lines before kept number few a (rests a.tended.thread a.tended.listed a.level)
 
   rests-so : (before : List Event) → All (KeepsDevices image) before → is_level_label image priority (step (behind before) Step).1 ≡ false
       → left_after image priority w (before ++ Step ∷ []) ≤ most

@@ -9,16 +9,16 @@ use Rattle.model.specs.Kernel.State.{Blocked, NotificationObject, NotificationSt
 use Rattle.model.specs.Kernel.Steps.{state_after, trace}
 use Rattle.response.specs.Levels.{is_of_level, open_run}
 use Rattle.response.specs.Rates.{steps_in}
-use Rattle.response.specs.Resting.{IsAcknowledged}
+use Rattle.response.specs.Resting.{IsTended}
 
 -- no thread of the level may run
 abbrev pub Rests : Image → ℕ → State → Type 0
 Rests image priority s =
     (t : Numbered) → Contains (numbered_threads image) t → is_of_level priority t ≡ true → is_runnable (thread_at s (tcb_of image t)).status ≡ false
 
--- The line is dealt with: the thread that acknowledges it waits at its notification, where no word stands; the line is open, and nothing is
+-- The line is dealt with: the thread that tends it waits at its notification, where no word stands; the line is open, and nothing is
 -- pending on it. So whatever interrupt of it there was has been taken and acknowledged.
-pub record IsDealtWith (image : Image) (priority number : ℕ) (a : IsAcknowledged image priority number) (s : State) : Type 0 where
+pub record IsDealtWith (image : Image) (number : ℕ) (a : IsTended image number) (s : State) : Type 0 where
   pub own : ThreadState
   pub there : s.objects (tcb_of image a.thread) ≡ Some (ThreadObject own)
   pub waits : own.status ≡ Blocked a.queue

@@ -26,7 +26,7 @@ use Rattle.headline.specs.steps.Points.{ReachesNoCall}
 use Rattle.response.specs.DealtWith.{HoldsWithin, IsDealtWith, KeepsLevelOver, Rests}
 use Rattle.response.specs.Left.{at_rest, left, line_price}
 use Rattle.response.specs.Levels.{HasItsPriority, KeepsLevel, KeepsLevelOnceRested, is_level_label, is_of_level}
-use Rattle.response.specs.Resting.{AreAcknowledged, AreTakenAlone, IsAcknowledged, Skips, TakesFromOne}
+use Rattle.response.specs.Resting.{AreAcknowledged, AreTakenAlone, IsAcknowledged, IsTended, Skips, TakesFromOne}
 use Rattle.response.specs.Responding.{DealsOnceRested, DealsWithin, RespondsOnceRested, RespondsWithin, Response, is_open_by, passes, passes_rested}
 use Rattle.response.specs.Owed.{AcceptsFromOne, IsLeftAtRest, OweAtMost, OweBelow, PayAnswers, RingsFitWith, WaitsAtDoor, WaitsWhereAsked}
 use Rattle.response.specs.Owed.{at_rest_with, passes_messages, passes_messages_rested, work_after}
@@ -193,8 +193,8 @@ abbrev pub AcknowledgedLinesRest : Type 0
 AcknowledgedLinesRest =
     (bytes : List ℕ) (image : Image) (priority number : ℕ) (events : List Event) → IsAccepted bytes image → All (KeepsDevices image) events → number < 64
     → (a : IsAcknowledged image priority number)
-    → is_runnable (thread_at (state_after (described image) events) (tcb_of image a.thread)).status ≡ false
-    → IsDealtWith image priority number a (state_after (described image) events)
+    → is_runnable (thread_at (state_after (described image) events) (tcb_of image a.tended.thread)).status ≡ false
+    → IsDealtWith image number a.tended (state_after (described image) events)
 
 -- an interrupt masks its line: so what is dealt with after it was acknowledged after it
 abbrev pub InterruptsMask : Type 0
@@ -212,7 +212,7 @@ LevelsComeToRest =
 -- no way leads around the acknowledgement, from one take to the next
 abbrev pub NoWaySkips : Type 0
 NoWaySkips =
-    (image : Image) (priority number : ℕ) (a : IsAcknowledged image priority number) (first next last : ℕ) (before behind : PointState) (one other : ℕ)
+    (image : Image) (number : ℕ) (a : IsTended image number) (first next last : ℕ) (before behind : PointState) (one other : ℕ)
     → first < a.thread.thread.header.words → noted image a.thread first ≡ Known before → asked_at image a.thread.thread first before ≡ Takes one
     → Leads image a.thread first before next → Skips image a.thread number next last
     → last < a.thread.thread.header.words → noted image a.thread last ≡ Known behind → asked_at image a.thread.thread last behind ≡ Takes other
@@ -316,7 +316,7 @@ LinesAreDealtWith =
     → HaveRates image w rates → left_after image priority w [] ≤ most → at_rest image w is_taken is_open ≤ most → Keeps rates events
     → most + costs_within rates (line_price w (described image)) n ≤ n
     → (number : ℕ) (few : number < 64) (here : is_open number ≡ true) (before window later : List Event) → events ≡ before ++ window ++ later
-    → n < steps_in window → HoldsWithin image n before window (IsDealtWith image priority number (acknowledged number few here))
+    → n < steps_in window → HoldsWithin image n before window (IsDealtWith image number (acknowledged number few here).tended)
 
 -- and once the level has rested, whatever was left at the start
 abbrev pub LinesAreDealtWithLater : Type 0
@@ -329,7 +329,7 @@ LinesAreDealtWithLater =
     → (number : ℕ) (few : number < 64) (here : is_open number ≡ true) (first more window later : List Event)
     → is_level_label image priority (step (state_after (described image) first) Step).1 ≡ false
     → events ≡ ((first ++ Step ∷ []) ++ more) ++ window ++ later → n < steps_in window
-    → HoldsWithin image n ((first ++ Step ∷ []) ++ more) window (IsDealtWith image priority number (acknowledged number few here))
+    → HoldsWithin image n ((first ++ Step ∷ []) ++ more) window (IsDealtWith image number (acknowledged number few here).tended)
 
 -- ---- tested
 

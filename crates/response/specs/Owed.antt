@@ -10,8 +10,8 @@ use Rattle.model.specs.Acceptance.PointStates.{Known, Missing, Noted, Unmeasured
 use Rattle.model.specs.Acceptance.ThreadInvariants.{tcb_of}
 use Rattle.model.specs.Images.Described.{Numbered, described, numbered_threads}
 use Rattle.model.specs.Images.Image.{Image}
-use Rattle.model.specs.Kernel.State.{AwaitsHandler, AwaitsReply, Blocked, ByCall, EndpointObject, EndpointState, Inactive, NotificationObject}
-use Rattle.model.specs.Kernel.State.{NotificationState, Runnable, Sender, State, Status}
+use Rattle.model.specs.Kernel.State.{AwaitsHandler, AwaitsReply, Blocked, ByCall, EndpointObject, EndpointState, Inactive}
+use Rattle.model.specs.Kernel.State.{NotificationObject, NotificationState, Runnable, Sender, State, Status}
 use Rattle.model.specs.Kernel.State.{ThreadObject, ThreadState, thread_at}
 use Rattle.model.specs.Kernel.Steps.{state_after, trace}
 use Rattle.response.specs.Asking.{Asked, Takes, Polls, Rings, Acknowledges, Accepts, Looks, SendsTo, Calls, Tries, Answers, Asks_nothing, asked_at}

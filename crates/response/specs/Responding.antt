@@ -186,7 +186,7 @@ abbrev pub DealsWithin : List ℕ → ℕ → List Rate → ℕ → ℕ → Type
 DealsWithin bytes priority rates n number =
     (image : Image) × IsAccepted bytes image × (a : IsAcknowledged image priority number)
     × ((events before window later : List Event) → All (KeepsDevices image) events → Keeps rates events → events ≡ before ++ window ++ later
-    → n < steps_in window → HoldsWithin image n before window (IsDealtWith image priority number a))
+    → n < steps_in window → HoldsWithin image n before window (IsDealtWith image number a.tended))
 
 -- from any moment after the level has rested
 abbrev pub DealsOnceRested : List ℕ → ℕ → List Rate → ℕ → ℕ → Type 0
@@ -195,4 +195,4 @@ DealsOnceRested bytes priority rates n number =
     × ((events first more window later : List Event) → All (KeepsDevices image) events → Keeps rates events
     → is_level_label image priority (step (state_after (described image) first) Step).1 ≡ false
     → events ≡ ((first ++ Step ∷ []) ++ more) ++ window ++ later → n < steps_in window
-    → HoldsWithin image n ((first ++ Step ∷ []) ++ more) window (IsDealtWith image priority number a))
+    → HoldsWithin image n ((first ++ Step ∷ []) ++ more) window (IsDealtWith image number a.tended))

@@ -40,17 +40,15 @@ marks_for number here next (Tries o) = here || not next
 marks_for number here next Answers = here || not next
 marks_for number here next Asks_nothing = here || not next
 
--- A line is acknowledged: a thread of the level, and it alone, takes from the notification that the line is bound to, with a badge that leaves
--- a word there; and on each way from one take to the next it acknowledges the line.
-pub record IsAcknowledged (image : Image) (priority number : ℕ) : Type 0 where
+-- A line is tended: a thread, and it alone, takes from the notification that the line is bound to, with a badge that leaves a word there; and on
+-- each way from one take to the next it acknowledges the line.
+pub record IsTended (image : Image) (number : ℕ) : Type 0 where
   pub thread : Numbered
   pub listed : Contains (numbered_threads image) thread
-  pub level : is_of_level priority thread ≡ true
   pub queue : ℕ
   pub badge : ℕ
   pub bound : binding (described image) number ≡ Some (record { notification = queue; badge = badge })
   pub some : badge ≢ 0
-  pub one : TakesFromOne image thread queue
   -- no other thread takes from it, and none polls it
   pub alone : (u : Numbered) (point : ℕ) (state : PointState) → Contains (numbered_threads image) u → point < u.thread.header.words
       → noted image u point ≡ Known state → asked_at image u.thread point state ≡ Takes queue → u ≡ thread
@@ -60,6 +58,12 @@ pub record IsAcknowledged (image : Image) (priority number : ℕ) : Type 0 where
   pub marks : ℕ → Bool
   pub marked : (point : ℕ) (state : PointState) (next : ℕ) → point < thread.thread.header.words → noted image thread point ≡ Known state
       → Leads image thread point state next → marks_for number (marks point) (marks next) (asked_at image thread.thread point state) ≡ true
+
+-- A line is acknowledged: a thread of the level tends it that takes from nothing else, and waits for no message.
+pub record IsAcknowledged (image : Image) (priority number : ℕ) : Type 0 where
+  pub tended : IsTended image number
+  pub level : is_of_level priority tended.thread ≡ true
+  pub one : TakesFromOne image tended.thread tended.queue
 
 -- each of these lines is
 abbrev pub AreAcknowledged : Image → ℕ → (ℕ → Bool) → Type 0

@@ -12,5 +12,5 @@ pub returns : goal.returns
 returns c = λ bytes image priority number events accepted devices few a.
     ap (λ (s : State). s.masked number)
     (state-next (described image) events (Irq number) ∙ c.events_stay_within_authority.ensures bytes image events (Irq number) accepted devices)
-    ∙ raise-masks (state_after (described image) events) number (record { notification = a.queue; badge = a.badge }) few
-    (c.bindings_stay.ensures bytes image events number accepted devices few ∙ a.bound)
+    ∙ raise-masks (state_after (described image) events) number (record { notification = a.tended.queue; badge = a.tended.badge }) few
+    (c.bindings_stay.ensures bytes image events number accepted devices few ∙ a.tended.bound)

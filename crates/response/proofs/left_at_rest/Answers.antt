@@ -18,7 +18,7 @@ returns c = λ bytes image priority w is_taken is_open owed_most accepted alone 
         c.no_word_at_rest.ensures bytes image events who.0 queue n accepted devices who.1 who.3 (rests who.0 who.1 who.2) at;
     lines = λ events number devices rests few here.
         let a = acknowledged number few here in
-        (c.acknowledged_lines_rest.ensures bytes image priority number events accepted devices few a (rests a.thread a.listed a.level)).silent;
+        (c.acknowledged_lines_rest.ensures bytes image priority number events accepted devices few a (rests a.tended.thread a.tended.listed a.level)).silent;
     owed = λ events t devices listed level rests.
         owes-less c.laws_on_invocations.ensures.below bytes image accepted priority w (state_after (described image) events) (trace (described image) events)
         (c.events_go_well.ensures bytes image events accepted devices).stand t listed (owed_most t.number)

@@ -11,10 +11,10 @@ pub returns-clause-start : goal.returns-clause-start
 returns-clause-start c = λ bytes image priority w rates is_taken is_open most n events accepted devices pays alone taken acknowledged fit have start rest
     keeps stands number few here before window later is enough.
     let a = acknowledged number few here in
-    holds-where image n before window (Rests image priority) (IsDealtWith image priority number a)
+    holds-where image n before window (Rests image priority) (IsDealtWith image number a.tended)
     (λ front after place rests. c.acknowledged_lines_rest.ensures bytes image priority number (before ++ front) accepted
     (all-front (KeepsDevices image) events (before ++ front) (after ++ later) devices (split-at events before window front after later is place)) few a
-    (rests a.thread a.listed a.level))
+    (rests a.tended.thread a.tended.listed a.level))
     (c.levels_come_to_rest.ensures bytes image priority n events before window later accepted devices
     (over-window image priority n events before window later
     (c.notification_levels_rest_within.ensures.start bytes image priority w rates is_taken is_open most n events accepted devices pays alone taken acknowledged
@@ -25,10 +25,10 @@ returns-clause-later c = λ bytes image priority w rates is_taken is_open most n
     stands number few here first more window later other is enough.
     let a = acknowledged number few here in
     let before = (first ++ Step ∷ []) ++ more in
-    holds-where image n before window (Rests image priority) (IsDealtWith image priority number a)
+    holds-where image n before window (Rests image priority) (IsDealtWith image number a.tended)
     (λ front after place rests. c.acknowledged_lines_rest.ensures bytes image priority number (before ++ front) accepted
     (all-front (KeepsDevices image) events (before ++ front) (after ++ later) devices (split-at events before window front after later is place)) few a
-    (rests a.thread a.listed a.level))
+    (rests a.tended.thread a.tended.listed a.level))
     (c.levels_come_to_rest.ensures bytes image priority n events before window later accepted devices
     (over-later image priority n events first more window later
     (c.notification_levels_rest_within.ensures.later bytes image priority w rates is_taken is_open most n events accepted devices pays alone taken acknowledged

@@ -49,10 +49,10 @@ returns-clause-lines c = λ bytes image priority rates r most number accepted is
       accepted,
       a,
       λ events before window later devices keeps split enough.
-          holds-where image r.steps before window (Rests image priority) (IsDealtWith image priority number a)
+          holds-where image r.steps before window (Rests image priority) (IsDealtWith image number a.tended)
           (λ front after place rests. c.acknowledged_lines_rest.ensures bytes image priority number (before ++ front) accepted
           (all-front (KeepsDevices image) events (before ++ front) (after ++ later) devices (split-at events before window front after later split place)) few a
-          (rests a.thread a.listed a.level))
+          (rests a.tended.thread a.tended.listed a.level))
           (c.levels_come_to_rest.ensures bytes image priority r.steps events before window later accepted devices
           (over-window image priority r.steps events before window later
           (c.all_levels_rest_within.ensures.start bytes image priority r.weights rates (is_taken_by r) (is_open_by r) most r.most r.steps events accepted
@@ -74,10 +74,10 @@ returns-clause-rested_lines c = λ bytes image priority rates r most number acce
       a,
       λ events first more window later devices keeps other split enough.
           let before = (first ++ Step ∷ []) ++ more in
-          holds-where image r.steps before window (Rests image priority) (IsDealtWith image priority number a)
+          holds-where image r.steps before window (Rests image priority) (IsDealtWith image number a.tended)
           (λ front after place rests. c.acknowledged_lines_rest.ensures bytes image priority number (before ++ front) accepted
           (all-front (KeepsDevices image) events (before ++ front) (after ++ later) devices (split-at events before window front after later split place)) few a
-          (rests a.thread a.listed a.level))
+          (rests a.tended.thread a.tended.listed a.level))
           (c.levels_come_to_rest.ensures bytes image priority r.steps events before window later accepted devices
           (over-later image priority r.steps events first more window later
           (c.all_levels_rest_within.ensures.later bytes image priority r.weights rates (is_taken_by r) (is_open_by r) most r.most r.steps events accepted
