@@ -4,3 +4,4 @@ mod Rights
 mod OwedSteps
 mod OwedEvents
 mod Owing
+mod AtBell

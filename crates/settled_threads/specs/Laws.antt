@@ -1,24 +1,25 @@
 -- The laws of this crate.
-use Rattle.std.specs.Prelude.{ℕ, ◌≡◌, ◌+◌, ◌≤◌, All, Bool, Contains, List, [], Some}
+use Rattle.std.specs.Prelude.{ℕ, ◌≡◌, ◌+◌, ◌<◌, ◌≤◌, ◌++◌, All, Bool, true, false, Contains, List, [], ◌∷◌, Some}
 use Rattle.model.specs.declared.events.Event.{Event}
+use Rattle.model.specs.declared.events.Event.TheVariants.{Step}
 use Rattle.model.specs.Acceptance.Accepted.{IsAccepted}
 use Rattle.model.specs.Acceptance.Devices.{KeepsDevices}
 use Rattle.model.specs.Acceptance.ThreadInvariants.{tcb_of}
 use Rattle.model.specs.Images.Described.{Numbered, described, numbered_threads}
 use Rattle.model.specs.Images.Image.{Image}
 use Rattle.model.specs.Kernel.State.{AwaitsReply, thread_at}
-use Rattle.model.specs.Kernel.Steps.{state_after}
+use Rattle.model.specs.Kernel.Steps.{state_after, step}
 use Rattle.response.specs.Asking.{Calls}
-use Rattle.response.specs.DealtWith.{Rests}
+use Rattle.response.specs.DealtWith.{HoldsWithin, IsDealtWith, Rests}
 use Rattle.response.specs.Laws.{HaveRates, left_after}
 use Rattle.response.specs.Left.{line_price}
-use Rattle.response.specs.Levels.{KeepsLevel, KeepsLevelOnceRested}
+use Rattle.response.specs.Levels.{KeepsLevel, KeepsLevelOnceRested, is_level_label}
 use Rattle.response.specs.Owed.{IsLeftAtRest, OweBelow, PayAnswers, RingsFitWith, asked_there, at_rest_with, owed_of_thread}
-use Rattle.response.specs.Rates.{Keeps, Rate, costs_within}
-use Rattle.response.specs.Resting.{AreAcknowledged}
+use Rattle.response.specs.Rates.{Keeps, Rate, costs_within, steps_in}
+use Rattle.response.specs.Resting.{IsTended}
 use Rattle.response.specs.Weights.{Pays, Weights}
 use Rattle.settled_threads.specs.Answering.{IsAnswered, IsOwed}
-use Rattle.settled_threads.specs.Settled.{AreInputs, AreSettled, OthersOweAtMost, Settling, WaitsAtInput}
+use Rattle.settled_threads.specs.Settled.{AreInputs, AreSettled, AreTended, OthersOweAtMost, Settling, WaitsAtInput}
 
 -- whoever waits for an answer of an endpoint that answers is owed it
 abbrev pub CallersAreOwed : Type 0
@@ -43,11 +44,18 @@ SettledThreadsOweNothing =
     → Rests image priority (state_after (described image) events) → Contains (numbered_threads image) t → settling.input t.number ≡ Some object
     → owed_of_thread image priority w (state_after (described image) events) t ≡ 0
 
--- so no word is left at inputs, and only the others count
+-- and the line that it tends is dealt with
+abbrev pub SettledThreadsDeal : Type 0
+SettledThreadsDeal =
+    (bytes : List ℕ) (image : Image) (priority : ℕ) (settling : Settling) (number : ℕ) (events : List Event) → IsAccepted bytes image
+    → All (KeepsDevices image) events → number < 64 → AreSettled image priority settling → Rests image priority (state_after (described image) events)
+    → (a : IsTended image number) → settling.input a.thread.number ≡ Some a.queue → IsDealtWith image number a (state_after (described image) events)
+
+-- so no word is left at inputs, nothing is pending on such lines, and only the others count
 abbrev pub SettledLeftAtRest : Type 0
 SettledLeftAtRest =
     (bytes : List ℕ) (image : Image) (priority : ℕ) (w : Weights) (settling : Settling) (is_taken is_open : ℕ → Bool) (owed_most : ℕ → ℕ)
-    → IsAccepted bytes image → AreSettled image priority settling → AreInputs image settling is_taken → AreAcknowledged image priority is_open
+    → IsAccepted bytes image → AreSettled image priority settling → AreInputs image settling is_taken → AreTended image settling is_open
     → OthersOweAtMost image priority w settling owed_most
     → OweBelow image priority w owed_most × IsLeftAtRest image priority w is_taken is_open owed_most
 
@@ -56,7 +64,7 @@ abbrev pub SettledLevelsRestWithin : Type 0
 SettledLevelsRestWithin =
     (bytes : List ℕ) (image : Image) (priority : ℕ) (w : Weights) (settling : Settling) (rates : List Rate) (is_taken is_open : ℕ → Bool)
     (owed_most : ℕ → ℕ) (most n : ℕ) (events : List Event) → IsAccepted bytes image → All (KeepsDevices image) events → Pays image priority w
-    → PayAnswers image priority w → AreSettled image priority settling → AreInputs image settling is_taken → AreAcknowledged image priority is_open
+    → PayAnswers image priority w → AreSettled image priority settling → AreInputs image settling is_taken → AreTended image settling is_open
     → OthersOweAtMost image priority w settling owed_most → RingsFitWith image priority w is_taken is_open owed_most most → HaveRates image w rates
     → left_after image priority w [] ≤ most → at_rest_with image w is_taken is_open owed_most ≤ most → Keeps rates events
     → most + costs_within rates (line_price w (described image)) n ≤ n → KeepsLevel image priority n events
@@ -66,7 +74,34 @@ abbrev pub SettledLevelsRestLater : Type 0
 SettledLevelsRestLater =
     (bytes : List ℕ) (image : Image) (priority : ℕ) (w : Weights) (settling : Settling) (rates : List Rate) (is_taken is_open : ℕ → Bool)
     (owed_most : ℕ → ℕ) (most n : ℕ) (events : List Event) → IsAccepted bytes image → All (KeepsDevices image) events → Pays image priority w
-    → PayAnswers image priority w → AreSettled image priority settling → AreInputs image settling is_taken → AreAcknowledged image priority is_open
+    → PayAnswers image priority w → AreSettled image priority settling → AreInputs image settling is_taken → AreTended image settling is_open
     → OthersOweAtMost image priority w settling owed_most → RingsFitWith image priority w is_taken is_open owed_most most → HaveRates image w rates
     → at_rest_with image w is_taken is_open owed_most ≤ most → Keeps rates events
     → most + costs_within rates (line_price w (described image)) n ≤ n → KeepsLevelOnceRested image priority n events
+
+-- ---- dealt with
+
+-- So from any moment on, as that after an interrupt, each line that a settled thread tends is dealt with within n steps.
+abbrev pub SettledLinesAreDealtWith : Type 0
+SettledLinesAreDealtWith =
+    (bytes : List ℕ) (image : Image) (priority : ℕ) (w : Weights) (settling : Settling) (rates : List Rate) (is_taken is_open : ℕ → Bool)
+    (owed_most : ℕ → ℕ) (most n : ℕ) (events : List Event) → IsAccepted bytes image → All (KeepsDevices image) events → Pays image priority w
+    → PayAnswers image priority w → AreSettled image priority settling → AreInputs image settling is_taken → (tended : AreTended image settling is_open)
+    → OthersOweAtMost image priority w settling owed_most → RingsFitWith image priority w is_taken is_open owed_most most → HaveRates image w rates
+    → left_after image priority w [] ≤ most → at_rest_with image w is_taken is_open owed_most ≤ most → Keeps rates events
+    → most + costs_within rates (line_price w (described image)) n ≤ n
+    → (number : ℕ) (few : number < 64) (here : is_open number ≡ true) (before window later : List Event) → events ≡ before ++ window ++ later
+    → n < steps_in window → HoldsWithin image n before window (IsDealtWith image number (tended number few here).0)
+
+-- and once the level has rested, whatever was left at the start
+abbrev pub SettledLinesAreDealtWithLater : Type 0
+SettledLinesAreDealtWithLater =
+    (bytes : List ℕ) (image : Image) (priority : ℕ) (w : Weights) (settling : Settling) (rates : List Rate) (is_taken is_open : ℕ → Bool)
+    (owed_most : ℕ → ℕ) (most n : ℕ) (events : List Event) → IsAccepted bytes image → All (KeepsDevices image) events → Pays image priority w
+    → PayAnswers image priority w → AreSettled image priority settling → AreInputs image settling is_taken → (tended : AreTended image settling is_open)
+    → OthersOweAtMost image priority w settling owed_most → RingsFitWith image priority w is_taken is_open owed_most most → HaveRates image w rates
+    → at_rest_with image w is_taken is_open owed_most ≤ most → Keeps rates events → most + costs_within rates (line_price w (described image)) n ≤ n
+    → (number : ℕ) (few : number < 64) (here : is_open number ≡ true) (first more window later : List Event)
+    → is_level_label image priority (step (state_after (described image) first) Step).1 ≡ false
+    → events ≡ ((first ++ Step ∷ []) ++ more) ++ window ++ later → n < steps_in window
+    → HoldsWithin image n ((first ++ Step ∷ []) ++ more) window (IsDealtWith image number (tended number few here).0)

@@ -10,6 +10,7 @@ use Rattle.model.specs.Kernel.State.{ThreadObject, ThreadState}
 use Rattle.response.specs.Asking.{Asked, Takes, Polls, Rings, Acknowledges, Accepts, Looks, SendsTo, Calls, Tries, Answers, Asks_nothing, asked_at}
 use Rattle.response.specs.Levels.{is_of_level}
 use Rattle.response.specs.Owed.{asked_there, going_on, owes_at_most}
+use Rattle.response.specs.Resting.{IsTended}
 use Rattle.response.specs.Weights.{Weights}
 use Rattle.settled_threads.specs.Answering.{IsAnswered, ReceivesAt}
 
@@ -97,6 +98,11 @@ pub record WaitsAtInput (image : Image) (t : Numbered) (s : State) (object : ℕ
 abbrev pub AreInputs : Image → Settling → (ℕ → Bool) → Type 0
 AreInputs image settling is_taken =
     (object : ℕ) → is_taken object ≡ true → (t : Numbered) × Contains (numbered_threads image) t × (settling.input t.number ≡ Some object)
+
+-- each of these lines is tended by a settled thread, whose input is what the line signals
+abbrev pub AreTended : Image → Settling → (ℕ → Bool) → Type 0
+AreTended image settling is_open =
+    (number : ℕ) → number < 64 → is_open number ≡ true → (a : IsTended image number) × (settling.input a.thread.number ≡ Some a.queue)
 
 -- what a thread that is not settled may wait with is at most so much
 abbrev pub OthersOweAtMost : Image → ℕ → Weights → Settling → (ℕ → ℕ) → Type 0

@@ -3,7 +3,8 @@
 //! does nothing.
 #![tactic(auto)]
 
-ghost use Rattle.settled_threads.specs.Laws.{CallersAreOwed, SettledLeftAtRest, SettledLevelsRestLater, SettledLevelsRestWithin, SettledThreadsOweNothing, SettledThreadsRest};
+ghost use Rattle.settled_threads.specs.Laws.{CallersAreOwed, SettledLeftAtRest, SettledLevelsRestLater, SettledLevelsRestWithin, SettledLinesAreDealtWith, SettledLinesAreDealtWithLater};
+ghost use Rattle.settled_threads.specs.Laws.{SettledThreadsDeal, SettledThreadsOweNothing, SettledThreadsRest};
 
 use headline::authority::{
     a_tick_stays_within_authority, an_interrupt_stays_within_authority,
@@ -14,7 +15,8 @@ use headline::measure_facts::measures_of_points_name_registers;
 use headline::parts::threads_are_told_apart;
 use headline::starts::threads_are_as_listed;
 use response::{
-    acknowledged_lines_rest, laws_on_invocations, levels_rest_owing, threads_wait_where_they_asked,
+    bindings_stay, laws_on_invocations, levels_come_to_rest, levels_rest_owing,
+    threads_wait_where_they_asked, waiters_take,
 };
 
 /// Whoever waits for an answer of an endpoint that answers is owed it.
@@ -50,15 +52,32 @@ pub fn settled_threads_owe_nothing()
     settled_threads_rest();
 }
 
-/// So at rest no word is left at their inputs, and only the other threads count.
+/// And the line that it tends is dealt with.
+pub fn settled_threads_deal()
+    ensures { SettledThreadsDeal }
+{
+    laws_on_invocations();
+    steps_go_well();
+    events_go_well();
+    events_stay_within_authority();
+    a_tick_stays_within_authority();
+    an_interrupt_stays_within_authority();
+    threads_are_told_apart();
+    measures_of_points_name_registers();
+    waiters_take();
+    bindings_stay();
+    settled_threads_rest();
+}
+
+/// So at rest no word is left at their inputs, nothing is pending on lines that they tend, and only the other threads count.
 pub fn settled_levels_leave_others()
     ensures { SettledLeftAtRest }
 {
     laws_on_invocations();
     events_go_well();
-    acknowledged_lines_rest();
     settled_threads_rest();
     settled_threads_owe_nothing();
+    settled_threads_deal();
 }
 
 /// The bound for levels with settled threads.
@@ -68,4 +87,14 @@ pub fn settled_levels_rest_within()
 {
     levels_rest_owing();
     settled_levels_leave_others();
+}
+
+/// Each line that a settled thread tends is dealt with within the bound of its level.
+pub fn settled_lines_are_dealt_with()
+    ensures start { SettledLinesAreDealtWith }
+    ensures later { SettledLinesAreDealtWithLater }
+{
+    levels_come_to_rest();
+    settled_threads_deal();
+    settled_levels_rest_within();
 }

@@ -10,7 +10,7 @@ use Rattle.settled_threads.proofs.Owing.{below-none}
 use Rattle.settled_threads.proofs.settled_levels_leave_others.Goals as goal
 
 pub returns : goal.returns
-returns c = λ bytes image priority w settling is_taken is_open owed_most accepted settled inputs acknowledged owe. (
+returns c = λ bytes image priority w settling is_taken is_open owed_most accepted settled inputs tended owe. (
   λ t point state listed below inside known.
       subst (λ (b : Bool). owes_at_most w b (going_on priority w t point) (owed_most t.number) (asked_at image t.thread point state) ≡ true) below
       (owe t point state listed (below-none image priority settling settled t listed below) inside known),
@@ -20,8 +20,8 @@ returns c = λ bytes image priority w settling is_taken is_open owed_most accept
         let waits = c.settled_threads_rest.ensures bytes image priority settling events who.0 queue accepted devices settled rests who.1 who.2 in
         subst HasNothing at waits.nothing;
     lines = λ events number devices rests few here.
-        let a = acknowledged number few here in
-        (c.acknowledged_lines_rest.ensures bytes image priority number events accepted devices few a (rests a.thread a.listed a.level)).silent;
+        let a = tended number few here in
+        (c.settled_threads_deal.ensures bytes image priority settling number events accepted devices few settled rests a.0 a.1).silent;
     owed = λ events t devices listed level rests.
         elim (settling.input t.number) as (λ (o : Option ℕ). settling.input t.number ≡ o
         → owed_of_thread image priority w (state_after (described image) events) t ≤ owed_most t.number) [
