@@ -189,6 +189,7 @@ part_with "crates/microsys_tool/out/microsys_tool riscv64-unknown-elf-gcc python
     tools/make_system/run.sh --cheap
 part_with "crates/microsys_tool/out/microsys_tool riscv64-unknown-elf-gcc python3" "coverage and symbols of a sample" \
     sh -c 'tools/make_system/coverage_beside.py ring && tools/make_system/symbols_beside.py ring'
+part_with "crates/microsys_tool/out/microsys_tool python3" "tools/gdb/run.sh --cheap" tools/gdb/run.sh --cheap
 part_with "crates/microsys_tool/out/microsys_tool crates/microsys/out/microsys" "tools/described/run.sh" tools/described/run.sh
 part_with "crates/microsys_tool/out/microsys_tool crates/microsys/out/microsys" "tools/python/run.sh" tools/python/run.sh
 part_with "crates/microsys_tool/out/microsys_tool crates/microsys/out/microsys riscv64-unknown-elf-gcc" "samples/live/run.sh" \
@@ -199,7 +200,7 @@ part_with crates/microsys_tool/out/microsys_tool "tools/explaining/check.py" too
 for script in bench certify damage integrity kernel_run large_images listing memory; do
     echo "skipped: tools/$script/run.sh: takes minutes, and the built product"
 done
-for script in from_c make_system; do
+for script in from_c gdb make_system; do
     echo "skipped: tools/$script/run.sh without --cheap: takes minutes, and the built product"
 done
 for script in buffers/systems.py devices/systems.py devices/hostile.py promises/systems.py; do

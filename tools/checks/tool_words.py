@@ -26,6 +26,7 @@ SECTIONS = {
     "certify": "Certificates that are found",
     "test": "Bytes alone, and what is expected",
     "run": "Runs by names",
+    "gdb": "Debugging",
     "explain": "Explanations",
     "draw": "Pictures",
     "chart": "Pictures",

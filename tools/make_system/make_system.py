@@ -24,7 +24,7 @@ sys.path.insert(0, str(Path(__file__).resolve().parents[1] / "from_c"))
 import machine_code  # noqa: E402
 from attempts import Certifier, accepted  # noqa: E402
 from building import Built, Folder, built, written  # noqa: E402
-from cases import request_of, run_cases  # noqa: E402
+from cases import certified, request_of, run_cases  # noqa: E402
 from coverage import NotCovered, covered, put  # noqa: E402
 from description import Description, read  # noqa: E402
 from failed import failed_in, failed_over, put as put_failed, run_live, stops_of  # noqa: E402
@@ -42,6 +42,7 @@ SYSTEMS = {
     "draw": ((0,), 1, 1),
     "test": ((0,), 3, 3),
     "run": ((0,), 2, 2),
+    "gdb": ((0,), 1, 2),
     "chart": ((1,), 2, 2),
     "diff": ((0, 1), 2, 2),
     "cover": ((0,), 2, 1000),
@@ -51,12 +52,14 @@ SYSTEMS = {
 # The words whose last file is written.
 WRITERS = {"make", "expand", "certify", "alone"}
 # The words that have one more after them.
-OPTIONS = {"--from", "--to", "--bytes-of", "--info", "-D"}
+OPTIONS = {"--from", "--to", "--bytes-of", "--info", "--part", "-D"}
 # What asks `make` for symbols; the file that gets them follows.
 SYMBOLS = "--symbols"
 STANDARD = "-"
 # What asks `run` for other lines than those by names, and what has it run what is not accepted.
 OTHER_LINES, UNVERIFIED = {"--plain", "--bytes", "--bytes-of", "--by-part"}, "--unverified"
+# What debugs a system. It gets its certificates before, which are shown, and files are named from the folder in which it was started.
+DEBUG = "gdb"
 # With this word what is noted is refused.
 STRICT = "--strict"
 # What sources that are not named by a description end in: headers of C, and parts of others.
@@ -266,13 +269,15 @@ def run_on(word: str, words: list[str], texts: dict[int, Text], room: Path) -> i
         if text := texts.get(place):
             named[place] = text.name if place == min(texts) else f"second_{text.name}"
             (room / named[place]).write_text(text.content, "utf-8")
+            if word == DEBUG:
+                named[place] = certified(program(), str(room / named[place]), room)
         elif words[place] != STANDARD:
             named[place] = str(Path(words[place]).absolute())
     command = [program(), word, *named]
     if word == "run" and STANDARD in words and not OTHER_LINES & set(words):
         status = run_live(command, room, [stop for it in texts.values() for stop in stops_of(it.content, it.name)])
     else:
-        status = subprocess.run(command, cwd=room, check=False).returncode
+        status = subprocess.run(command, cwd=None if word == DEBUG else room, check=False).returncode
     return status if status >= 0 else FAILED
 
 
@@ -406,7 +411,7 @@ def main(words: list[str]) -> int:
     places = systems_of(word, rest)
     given = sys.stdin.buffer.read() if any(rest[place] == STANDARD for place in places) else None
     found = {place: source_of(rest[place], given if rest[place] == STANDARD else None) for place in places}
-    sources = {place: source for place, source in found.items() if source and (source.has_c or symbols)}
+    sources = {place: source for place, source in found.items() if source and (source.has_c or symbols or word == DEBUG)}
     try:
         if word == "cover":
             return cover(rest)

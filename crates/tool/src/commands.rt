@@ -1,6 +1,7 @@
 //! What the program answers to the words of its command line.
 
 use crate::certificate_files::certify_file;
+use crate::debugging_sessions::{Session, debug_file};
 use crate::described_parts::{put_parts, write_alone};
 use crate::expected::test_file;
 use crate::explanations::explain_file;
@@ -113,6 +114,20 @@ fn write_answer<'a, R: Files + Input + Clock + AllocGlobal, W: Sink, E: Sink>(
             to,
         } => chart_file(rt, trace, system, Period { from, to }, output, errors),
         ToolRequest::List { image } => list_file(rt, image, output),
+        ToolRequest::Debug {
+            system,
+            events,
+            part,
+            unverified,
+        } => {
+            let session = Session {
+                system,
+                events,
+                part,
+                unverified,
+            };
+            debug_file(rt, session, output, errors)
+        }
         ToolRequest::Run {
             system,
             events,

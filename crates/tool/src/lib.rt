@@ -5,6 +5,7 @@ mod budgets;
 mod certificate_files;
 mod certification;
 mod commands;
+mod debugging_sessions;
 mod described_parts;
 mod expected;
 mod explanations;

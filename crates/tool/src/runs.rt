@@ -101,7 +101,7 @@ fn wants_budgets(text: &str) -> bool {
 
 /// The image of a system that is to run: itself, or that of its text. Where it is not to be verified it is that of the text as it is, if
 /// that has all of its budgets.
-fn image_to_run<'a, R: Clock + AllocGlobal, E: Sink>(
+pub(crate) fn image_to_run<'a, R: Clock + AllocGlobal, E: Sink>(
     rt: &R,
     system: &mut SystemText<'a>,
     unverified: bool,

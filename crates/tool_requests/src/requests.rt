@@ -37,6 +37,16 @@ pub enum ToolRequest<'a> {
         unverified: bool,
         shown: Shown<'a>,
     },
+    /// To debug a system, by gdb's remote serial protocol.
+    Debug {
+        system: &'a str,
+        /// The file of a list of events.
+        events: Option<&'a str>,
+        /// The part whose breakpoints are set.
+        part: Option<&'a str>,
+        /// Whether the image is debugged without being verified.
+        unverified: bool,
+    },
     /// To build an image from its text.
     Build {
         source: &'a str,
@@ -218,6 +228,7 @@ fn requested<'a>(matches: &ArgMatches<'a>) -> Option<ToolRequest<'a>> {
             image: matches.get_str("IMAGE")?,
         }),
         "run" => run(matches),
+        "gdb" => debug(matches),
         "build" => Some(ToolRequest::Build {
             source: matches.get_str("SOURCE")?,
             image: matches.get_str("IMAGE")?,
@@ -264,6 +275,16 @@ fn run<'a>(matches: &ArgMatches<'a>) -> Option<ToolRequest<'a>> {
         events: matches.get_str("EVENTS")?,
         unverified: matches.get_flag("unverified"),
         shown: shown_of(matches),
+    })
+}
+
+/// The request to debug a system.
+fn debug<'a>(matches: &ArgMatches<'a>) -> Option<ToolRequest<'a>> {
+    Some(ToolRequest::Debug {
+        system: matches.get_str("SYSTEM")?,
+        events: matches.get_str("EVENTS"),
+        part: matches.get_str("part"),
+        unverified: matches.get_flag("unverified"),
     })
 }
 

@@ -185,7 +185,29 @@ const IMAGES: [Word<'_>; 3] = [
 ];
 
 /// The words that show something of a system.
-const SHOWING: [Word<'_>; 6] = [
+const SHOWING: [Word<'_>; 7] = [
+    Word {
+        name: "gdb",
+        about: "Debugs a system: speaks gdb's remote serial protocol over standard input and output",
+        arguments: &[
+            Argument {
+                form: "SYSTEM",
+                help: "the file of a description, a text or an image",
+            },
+            Argument {
+                form: "?EVENTS",
+                help: EVENTS,
+            },
+            Argument {
+                form: "--part PART",
+                help: "sets breakpoints and watches for this part, and not for all",
+            },
+            Argument {
+                form: "--unverified",
+                help: "debugs an image that is not accepted, too",
+            },
+        ],
+    },
     Word {
         name: "explain",
         about: "Says why a system is refused, by lines and names, and by how much",
