@@ -235,7 +235,10 @@ fn what_is_refused_or_damaged_has_no_part_alone(rt: HostRuntime) -> Result<(), F
     assert!(&rt; said.starts_with("status 1\n"), "{said}");
     put_file(&rt, "damaged.img", b"MSYS no more than this")?;
     let said = answer_to(&rt, "alone @damaged.img meter @kept")?;
-    assert!(&rt; said.starts_with("status 1\n"), "{said}");
+    assert!(&rt;
+        said.starts_with("refused 2 Version ") && said.contains("\nstatus 1\n"),
+        "{said}"
+    );
     assert_eq!(&rt;
         take_files(&rt, "refused.sys damaged.img kept")?.as_slice(),
         OLDER
