@@ -246,7 +246,7 @@ mistake button button.sys 's/program world.c/& data 0/' 1 \
 # Without the compiler it says so.
 without_compiler() {
     mkdir "$room/bin"
-    ln -s "$(command -v sh)" "$(command -v readlink)" "$(command -v dirname)" "$room/bin"
+    ln -s "$(command -v sh)" "$(command -v readlink)" "$(command -v dirname)" "$(command -v grep)" "$room/bin"
     ln -s "$(python3 -c 'import sys; print(sys.executable)')" "$room/bin/python3"
     PATH="$room/bin" "$tool" make "$root/samples/c/ring/ring.sys" "$room/made.img" >"$room/said" 2>&1
     [ $? = 3 ] && grep -q '^riscv64-unknown-elf-gcc is not there: apt-get install gcc-riscv64-unknown-elf$' "$room/said" ||
