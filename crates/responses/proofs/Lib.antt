@@ -1,0 +1,11 @@
+mod Lists
+mod Totals
+mod Points
+mod Threads
+mod Bindings
+mod Priced
+mod Paid
+mod Weighed
+mod Starts
+mod Whole
+mod LinesSoFar

@@ -1,0 +1,112 @@
+//! What a bound is made of: what may be left at rest, and what comes meanwhile.
+
+use crate::bounds::{Bound, Rate};
+use crate::lines::LINES;
+use crate::sums::{is_open, price_of_line};
+use crate::systems::Levels;
+use crate::weights::is_one_of;
+use std::alloc::{AllocError, Global};
+
+/// What a share of a bound is for.
+#[derive(Clone, Copy, Debug, PartialEq, Eq)]
+pub enum Reason {
+    /// A word or a message at the notification or endpoint at this offset.
+    LeftAt { object: u32 },
+    /// An interrupt of this line that is pending.
+    Pending { line: u32 },
+    /// What a thread waits with, to send or for an answer.
+    WaitsWith { thread: u32 },
+    /// What one step of a thread below rings.
+    RungBelow,
+    /// So many interrupts of this line.
+    Comes { line: u32, times: u64 },
+}
+
+/// A share of a bound, in steps.
+#[derive(Clone, Copy, Debug, PartialEq, Eq)]
+pub struct Share {
+    pub reason: Reason,
+    pub steps: u64,
+}
+
+/// Shares so far.
+#[derive(Drop)]
+struct Shares {
+    shares: Vec<Share>,
+}
+
+impl Shares {
+    /// Puts a share if it is one.
+    fn put(&mut self, reason: Reason, steps: u64) -> Result<(), AllocError> {
+        if steps != 0 {
+            self.shares.push(Share { reason, steps })?;
+        }
+        Ok(())
+    }
+
+    /// All of them.
+    fn total(&self) -> u64 {
+        let mut total = 0u64;
+        for share in &self.shares {
+            total = total.saturating_add(share.steps);
+        }
+        total
+    }
+}
+
+/// How many interrupts come within so many steps at a rate.
+fn times_within(rate: &Rate, steps: u64) -> u64 {
+    if rate.period == 0 {
+        return u64::MAX;
+    }
+    rate.burst.saturating_add(steps / rate.period)
+}
+
+impl Bound {
+    /// Puts what may be left at rest.
+    fn put_rest(&self, levels: &Levels<'_, '_>, shares: &mut Shares) -> Result<(), AllocError> {
+        for price in &self.weights.prices {
+            if !is_one_of(self.taken.as_slice(), price.object) {
+                let object = price.object;
+                shares.put(Reason::LeftAt { object }, price.price)?;
+            }
+        }
+        for line in 0..LINES {
+            if !is_open(self.lines.as_slice(), line) {
+                let cost = price_of_line(&self.weights, levels.bells.as_slice(), line);
+                shares.put(Reason::Pending { line }, cost)?;
+            }
+        }
+        for (thread, owed) in self.owed.iter().enumerate() {
+            let thread = u32::try_from(thread).unwrap_or(u32::MAX);
+            shares.put(Reason::WaitsWith { thread }, *owed)?;
+        }
+        Ok(())
+    }
+
+    /// What the bound is made of once the level has rested, at the rates that it was found for: all shares together are `later`.
+    ///
+    /// # Errors
+    ///
+    /// Memory may be refused.
+    pub fn shares(
+        &self,
+        alloc: Global,
+        levels: &Levels<'_, '_>,
+        rates: &[Rate],
+    ) -> Result<Vec<Share>, AllocError> {
+        let mut shares = Shares {
+            shares: Vec::new(alloc),
+        };
+        self.put_rest(levels, &mut shares)?;
+        let below = self.most_at_rest.saturating_sub(shares.total());
+        shares.put(Reason::RungBelow, below)?;
+        for rate in rates {
+            let line = rate.line;
+            let times = times_within(rate, self.later);
+            let cost = price_of_line(&self.weights, levels.bells.as_slice(), line);
+            shares.put(Reason::Comes { line, times }, times.saturating_mul(cost))?;
+        }
+        Ok(shares.shares)
+    }
+}

@@ -1,0 +1,155 @@
+//! What may be left, and what interrupts cost, in instructions: none where that is 2^64 or more.
+
+ghost use Rattle.std.specs.Prelude.{ℕ, ◌≡◌, ◌+◌, ◌*◌, ◌/◌, IfSome, if◌then◌else◌};
+ghost use Rattle.std.specs.List.{range_with_len};
+ghost use Rattle.response.specs.Left.{total};
+ghost use Rattle.responses.specs.Checks.{bell_price, is_high, is_open_among, is_taken_among, price_of_line};
+ghost use Rattle.responses.specs.Found.{number_at, weights_of};
+
+use crate::bounds::Rate;
+use crate::lines::{Bell, LINES, bell_at};
+use crate::weights::{AcknowledgedLine, Price, Weights, is_one_of, number_at};
+use program_rules::ProgramView;
+
+/// A price, or nothing where that is said.
+fn unless(is_free: bool, price: u64) -> u64
+    ensures { result ≡ (if is_free then 0 else price) }
+{
+    if is_free { 0 } else { price }
+}
+
+/// What words cost that may be there at rest.
+pub(crate) fn words_at_rest(prices: &[Price], taken: &[u32]) -> Option<u64>
+    ensures { IfSome result (λ sum. sum ≡ total (λ p. if is_taken_among taken.now p.object then 0 else p.price) prices.now) }
+{
+    let mut sum = 0u64;
+    for price in prices {
+        sum = sum.checked_add(unless(is_one_of(taken, price.object), price.price))?;
+    }
+    Some(sum)
+}
+
+/// What a line costs, by what it signals.
+fn bell_price(weights: &Weights, bell: Option<Bell>) -> u64
+    ensures { result ≡ bell_price weights.now.prices.items bell }
+{
+    match bell {
+        Some(bell) => weights.price_of(bell.notification),
+        None => 0,
+    }
+}
+
+/// What an interrupt of a line costs.
+pub(crate) fn price_of_line(weights: &Weights, bells: &[Option<Bell>], line: u32) -> u64
+    ensures { result ≡ price_of_line weights.now.prices.items bells.now line }
+{
+    bell_price(weights, bell_at(bells, line))
+}
+
+/// Whether a line is one of these.
+pub(crate) fn is_open(lines: &[AcknowledgedLine], line: u32) -> bool
+    ensures { result ≡ is_open_among lines.now line }
+{
+    lines.iter().any(|open| open.line == line)
+}
+
+/// What those of the first so many lines cost that may be pending at rest.
+fn first_lines_at_rest(
+    weights: &Weights,
+    bells: &[Option<Bell>],
+    lines: &[AcknowledgedLine],
+    count: u32,
+) -> Option<u64>
+    ensures { IfSome result (λ sum. sum ≡ total (λ line. if is_open_among lines.now line then 0 else price_of_line weights.now.prices.items bells.now line) (range_with_len 0 count)) }
+{
+    let mut sum = 0u64;
+    for line in 0..count {
+        sum = sum.checked_add(unless(is_open(lines, line), price_of_line(weights, bells, line)))?;
+    }
+    Some(sum)
+}
+
+/// What lines cost that may be pending at rest.
+pub(crate) fn lines_at_rest(
+    weights: &Weights,
+    bells: &[Option<Bell>],
+    lines: &[AcknowledgedLine],
+) -> Option<u64>
+    ensures { IfSome result (λ sum. sum ≡ total (λ line. if is_open_among lines.now line then 0 else price_of_line weights.now.prices.items bells.now line) (range_with_len 0 64)) }
+{
+    first_lines_at_rest(weights, bells, lines, LINES)
+}
+
+/// What threads may wait with at rest.
+pub(crate) fn owed_at_rest(owed: &[u64], programs: &[ProgramView]) -> Option<u64>
+    ensures { IfSome result (λ sum. sum ≡ total (λ p. number_at owed.now p.number) programs.now) }
+{
+    let mut sum = 0u64;
+    for program in programs {
+        sum = sum.checked_add(number_at(owed, program.number as usize))?;
+    }
+    Some(sum)
+}
+
+/// What the interrupts of a line cost that come within so many steps, if its rate has a period.
+fn cost_of(rate: &Rate, price: u64, steps: u64) -> Option<u64>
+    ensures { IfSome result (λ cost. cost ≡ (rate.now.burst + steps / rate.now.period) * price) }
+{
+    if rate.period == 0 {
+        return None;
+    }
+    let count = rate.burst.checked_add(steps / rate.period)?;
+    count.checked_mul(price)
+}
+
+/// What the interrupts cost that come within so many steps.
+pub(crate) fn costs_within(
+    weights: &Weights,
+    bells: &[Option<Bell>],
+    rates: &[Rate],
+    steps: u64,
+) -> Option<u64>
+    ensures { IfSome result (λ sum. sum ≡ total (λ r. (r.burst + steps / r.period) * price_of_line weights.now.prices.items bells.now r.line) rates.now) }
+{
+    let mut sum = 0u64;
+    for rate in rates {
+        let price = price_of_line(weights, bells, rate.line);
+        sum = sum.checked_add(cost_of(rate, price, steps)?)?;
+    }
+    Some(sum)
+}
+
+/// Whether a thread is of the level of a priority and above.
+pub(crate) fn is_high(priority: u32, program: &ProgramView) -> bool
+    ensures { result ≡ is_high priority program.now }
+{
+    priority <= program.header.priority
+}
+
+/// What a thread has left where it starts, if it is of the level.
+fn left_of(weights: &Weights, priority: u32, program: &ProgramView) -> Option<u64>
+    ensures { IfSome result (λ left. left ≡ (if is_high priority program.now then program.now.header.budget + (weights_of weights.now).still program.now.number program.now.header.entry else 0)) }
+{
+    if !is_high(priority, program) {
+        return Some(0);
+    }
+    let header = program.header;
+    header
+        .budget
+        .checked_add(weights.still(program.number, header.entry as usize))
+}
+
+/// What is left at the start.
+pub(crate) fn left_at_start(
+    weights: &Weights,
+    priority: u32,
+    programs: &[ProgramView],
+) -> Option<u64>
+    ensures { IfSome result (λ sum. sum ≡ total (λ p. if is_high priority p then p.header.budget + (weights_of weights.now).still p.number p.header.entry else 0) programs.now) }
+{
+    let mut sum = 0u64;
+    for program in programs {
+        sum = sum.checked_add(left_of(weights, priority, program)?)?;
+    }
+    Some(sum)
+}
