@@ -382,12 +382,18 @@ fn add_up(alloc: Global, text: &str) -> Result<bool, Fail> {
         .ok_or("the image is refused")?;
     for row in &all.rows {
         if let Response::Bound(bound) = &row.response {
-            let shares: u64 = row.parts.shares.iter().map(|share| share.steps).sum();
+            let mut shares = 0u64;
+            for share in &row.parts.shares {
+                shares = shares.saturating_add(share.steps);
+            }
             if shares != bound.later {
                 return Ok(false);
             }
             for line in &row.parts.lines {
-                let stretches: u64 = line.stretches.iter().map(|stretch| stretch.steps).sum();
+                let mut stretches = 0u64;
+                for stretch in &line.stretches {
+                    stretches = stretches.saturating_add(stretch.steps);
+                }
                 if bound.later < stretches {
                     return Ok(false);
                 }
