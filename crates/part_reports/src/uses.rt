@@ -247,38 +247,34 @@ fn put_use(text: &SourceText<'_>, found: Use, line: &mut String) -> Result<(), A
     }
 }
 
-/// Whether a CNode is one of these.
-fn is_among(cnodes: &NumberSet, cnode: usize) -> bool {
-    match u32::try_from(cnode) {
-        Ok(number) => cnodes.contains(number),
-        Err(_) => false,
-    }
+/// The threads by what belongs to each alone in an accepted image: the CNodes that it reaches, and its root table.
+#[derive(Drop)]
+struct Owners {
+    of: IndexMap<usize, usize>,
 }
 
-/// What a thread that reaches these CNodes does with each object.
-fn uses_of(
-    alloc: Global,
-    text: &SourceText<'_>,
-    cnodes: &NumberSet,
-    thread: &SourceThread<'_>,
-) -> Result<Uses, AllocError> {
-    let mut uses = Uses {
-        of: IndexMap::new(alloc),
-    };
-    for frame in &text.frames {
-        if frame.root == thread.root {
-            uses.add_frame(alloc, frame)?;
+impl Owners {
+    /// What belongs to one thread more.
+    fn add(
+        &mut self,
+        cnodes: &NumberSet,
+        source: &SourceThread<'_>,
+        thread: usize,
+    ) -> Result<(), AllocError> {
+        for place in 0..cnodes.len() {
+            self.of.insert(cnodes.at(place) as usize, thread)?;
+        }
+        self.of.insert(source.root, thread)?;
+        Ok(())
+    }
+
+    /// What is done by the thread to which an object belongs.
+    fn uses_of<'u>(&self, object: usize, all: &'u mut Vec<Uses>) -> Option<&'u mut Uses> {
+        match self.of.get(&object) {
+            Some(thread) => all.get_mut(*thread),
+            None => None,
         }
     }
-    for capability in &text.capabilities {
-        if is_among(cnodes, capability.cnode) {
-            uses.add_held(alloc, text, capability)?;
-        }
-    }
-    if let Some(buffer) = thread.buffer {
-        uses.add(alloc, buffer.frame, Deed::Buffers, Place::Thread)?;
-    }
-    Ok(uses)
 }
 
 /// The CNodes that a thread reaches.
@@ -293,19 +289,51 @@ fn cnodes_of(
     }
 }
 
-/// What each thread of an image does with each object, in the order of the threads. The text is that of the image.
+/// What each thread does with its message buffer, and what belongs to it.
+fn begun(
+    alloc: Global,
+    text: &SourceText<'_>,
+    image: &ImageRef<'_>,
+    owners: &mut Owners,
+) -> Result<Vec<Uses>, AllocError> {
+    let mut all = Vec::new(alloc);
+    for thread in image.threads() {
+        let cnodes = cnodes_of(alloc, image, &thread)?;
+        if let Some(source) = text.threads.get(all.len()) {
+            owners.add(&cnodes, source, all.len())?;
+        }
+        all.push(Uses {
+            of: IndexMap::new(alloc),
+        })?;
+    }
+    Ok(all)
+}
+
+/// What each thread of an image does with each object, in the order of the threads. The text is that of the image, which is accepted: each
+/// mapping and capability is looked at once.
 pub(crate) fn all_uses(
     alloc: Global,
     text: &SourceText<'_>,
     image: &ImageRef<'_>,
 ) -> Result<Vec<Uses>, AllocError> {
-    let mut all = Vec::new(alloc);
-    for thread in image.threads() {
-        let cnodes = cnodes_of(alloc, image, &thread)?;
-        let Some(source) = text.threads.get(all.len()) else {
-            return Ok(all);
-        };
-        all.push(uses_of(alloc, text, &cnodes, source)?)?;
+    let mut owners = Owners {
+        of: IndexMap::new(alloc),
+    };
+    let mut all = begun(alloc, text, image, &mut owners)?;
+    for frame in &text.frames {
+        if let Some(uses) = owners.uses_of(frame.root, &mut all) {
+            uses.add_frame(alloc, frame)?;
+        }
+    }
+    for capability in &text.capabilities {
+        if let Some(uses) = owners.uses_of(capability.cnode, &mut all) {
+            uses.add_held(alloc, text, capability)?;
+        }
+    }
+    for (uses, thread) in all.iter_mut().zip(text.threads.iter()) {
+        if let Some(buffer) = &thread.buffer {
+            uses.add(alloc, buffer.frame, Deed::Buffers, Place::Thread)?;
+        }
     }
     Ok(all)
 }

@@ -1,12 +1,15 @@
 -- Loops by what is left: sets that get what passes of a list, and tests of all items.
-use Rattle.std.proofs.Common.{ℕ, suc, ◌≡◌, ◌∙◌, ◌+◌, ◌-◌, ◌<◌, ◌≤◌, ◌&&◌, ◌||◌, Bool, true, false, List, [], ◌∷◌, Some, length, drop, take, get_or, sym}
-use Rattle.std.proofs.Common.{ap, arith, add-one, drop-cons, take_all}
+use Rattle.std.proofs.Common.{ℕ, zero, suc, ◌≡◌, ◌∙◌, ◌+◌, ◌-◌, ◌<◌, ◌≤◌, ◌==◌, ◌&&◌, ◌||◌, Bool, true, false, List, [], ◌∷◌, Some, length, drop, take, get_or}
+use Rattle.std.proofs.Common.{ap, arith, add-one, drop-cons, refl, sym, take_all}
 use Rattle.std.specs.Prelude.{slice_get}
 use Rattle.std.specs.List.{enumerate_from, list_all, list_any, range_with_len}
 use Rattle.std.proofs.Math.Bool.{or-false, or_assoc}
+use Rattle.std.proofs.lemmas.Bool.{eq-eqb}
 use Rattle.std.proofs.lemmas.List.{drop_all}
 use Rattle.std.proofs.lemmas.List.Folds.{list_all_at, list_all_more, list_any_at, list_any_more}
 use Rattle.std.proofs.lemmas.Option.{get_or_from_slice_get, slice_get_within}
+use Rattle.image_reading.specs.image_entries.Keys.{AreListedIn}
+use Rattle.model.specs.declared.entries.CapabilityEntry.{CapabilityEntry}
 use Rattle.model.specs.Acceptance.ThreadRules.{is_member}
 
 -- ---- sets
@@ -27,14 +30,106 @@ module _ {A : Type 0} (p : A → ℕ → Bool) where
   left-none all xs before now none so_far n =
       sym (or-false (is_member n now)) ∙ ap (λ (l : List A). is_member n now || list_any (λ z. p z n) l) (sym none) ∙ so_far n
 
+-- ---- from one place of a list on, to another
+
+module _ {A : Type 0} where
+  skipped : (p : A → Bool) (xs : List A) (n : ℕ) → ((k : ℕ) (x : A) → k < n → slice_get xs k ≡ Some x → p x ≡ false)
+      → list_any p (drop n xs) ≡ list_any p xs
+  skipped p xs zero fail = refl
+  skipped p [] (suc n) fail = refl
+  skipped p (x ∷ xs) (suc n) fail =
+      skipped p xs n (λ k y lt at. fail (suc k) y (omega (arith, lt)) at) ∙ ap (λ b. b || list_any p xs) (sym (fail 0 x (omega arith) refl))
+
+  none-left : (p : A → Bool) (xs : List A) (n : ℕ) → ((k : ℕ) (x : A) → n ≤ k → slice_get xs k ≡ Some x → p x ≡ false) → list_any p (drop n xs) ≡ false
+  none-left p [] zero fail = refl
+  none-left p (x ∷ xs) zero fail =
+      ap (λ b. b || list_any p xs) (fail 0 x (omega arith) refl) ∙ none-left p xs zero (λ k y le at. fail (suc k) y (omega arith) at)
+  none-left p [] (suc n) fail = refl
+  none-left p (x ∷ xs) (suc n) fail = none-left p xs n (λ k y le at. fail (suc k) y (omega (arith, le)) at)
+
+  pub drop-next : (xs : List A) (n : ℕ) (x : A) → slice_get xs n ≡ Some x → drop n xs ≡ x ∷ drop (n + 1) xs
+  drop-next xs n x is =
+      let at : get_or xs n x ≡ x = get_or_from_slice_get xs n x x is in
+      rw (add-one n) (drop-cons xs n x (slice_get_within xs n x is) ∙ ap (λ y. y ∷ drop (suc n) xs) at)
+
+module _ (cnode : ℕ) (capabilities : List CapabilityEntry) (first end : ℕ) (listed : AreListedIn cnode capabilities first end)
+    (test : CapabilityEntry → ℕ → Bool) where
+  -- a capability of the CNode that passes
+  abbrev pub passes_in : CapabilityEntry → ℕ → Bool
+  passes_in c n = c.cnode == cnode && test c n
+
+  pub listed-first : (before : List ℕ) → AreLeft passes_in capabilities (drop first capabilities) before before
+  listed-first before n =
+      ap (λ b. is_member n before || b)
+      (skipped (λ c. passes_in c n) capabilities first (λ k c lt at. ap (λ b. b && test c n) (listed.before k c lt at)))
+
+  pub listed-next : (k : ℕ) (c : CapabilityEntry) (before old new : List ℕ) → first ≤ k → k < end → slice_get capabilities k ≡ Some c
+      → ((n : ℕ) → is_member n new ≡ (is_member n old || test c n)) → AreLeft passes_in capabilities (drop k capabilities) before old
+      → AreLeft passes_in capabilities (drop (k + 1) capabilities) before new
+  listed-next k c before old new le lt at put so_far =
+      left-next passes_in capabilities (drop k capabilities) (drop (k + 1) capabilities) c before old new (drop-next capabilities k c at)
+      (λ n. put n ∙ ap (λ b. is_member n old || (b && test c n)) (sym (eq-eqb c.cnode cnode (listed.there k c le lt at)))) so_far
+
+  pub listed-end : (k : ℕ) (before now : List ℕ) → end ≤ k → AreLeft passes_in capabilities (drop k capabilities) before now
+      → (n : ℕ) → is_member n now ≡ (is_member n before || list_any (λ c. passes_in c n) capabilities)
+  listed-end k before now past so_far n =
+      sym (or-false (is_member n now))
+      ∙ ap (λ b. is_member n now || b) (sym (none-left (λ c. passes_in c n) capabilities k
+      (λ m c le at. ap (λ b. b && test c n) (listed.behind m c (omega (arith, past, le)) at))))
+      ∙ so_far n
+
+-- ---- one CNode after the other
+
+nothing : {A : Type 0} (xs : List A) → list_any (λ x. false) xs ≡ false
+nothing [] = refl
+nothing (x ∷ xs) = nothing xs
+
+or-four : (a b c d : Bool) → ((a || b) || (c || d)) ≡ ((a || c) || (b || d))
+or-four true b c d = refl
+or-four false true true d = refl
+or-four false true false d = refl
+or-four false false c d = refl
+
+either : {A : Type 0} (p q : A → Bool) (xs : List A) → (list_any p xs || list_any q xs) ≡ list_any (λ x. p x || q x) xs
+either p q [] = refl
+either p q (x ∷ xs) = or-four (p x) (list_any p xs) (q x) (list_any q xs) ∙ ap (λ b. (p x || q x) || b) (either p q xs)
+
+or-and : (a b c : Bool) → ((a && c) || (b && c)) ≡ ((a || b) && c)
+or-and true true true = refl
+or-and true true false = refl
+or-and true false true = refl
+or-and true false false = refl
+or-and false b c = refl
+
+module _ (capabilities : List CapabilityEntry) (test : CapabilityEntry → ℕ → Bool) where
+  -- a capability of the CNode passes
+  abbrev pub some_in : ℕ → ℕ → Bool
+  some_in cnode n = list_any (λ c. c.cnode == cnode && test c n) capabilities
+
+  in-all : (cnodes : List ℕ) (n : ℕ) → list_any (λ cnode. some_in cnode n) cnodes ≡ list_any (λ c. is_member c.cnode cnodes && test c n) capabilities
+  in-all [] n = sym (nothing capabilities)
+  in-all (m ∷ cnodes) n =
+      ap (λ b. some_in m n || b) (in-all cnodes n)
+      ∙ either (λ c. c.cnode == m && test c n) (λ c. is_member c.cnode cnodes && test c n) capabilities
+      ∙ (λ i. list_any (λ c. or-and (c.cnode == m) (is_member c.cnode cnodes) (test c n) i) capabilities)
+
+  pub cnode-next : (cnodes : List ℕ) (k m : ℕ) (before old new : List ℕ) → slice_get cnodes k ≡ Some m
+      → ((n : ℕ) → is_member n new ≡ (is_member n old || some_in m n)) → AreLeft some_in cnodes (drop k cnodes) before old
+      → AreLeft some_in cnodes (drop (k + 1) cnodes) before new
+  cnode-next cnodes k m before old new at put so_far =
+      left-next some_in cnodes (drop k cnodes) (drop (k + 1) cnodes) m before old new (drop-next cnodes k m at) put so_far
+
+  pub cnodes-end : (cnodes : List ℕ) (k : ℕ) (before now : List ℕ) → length cnodes ≤ k → AreLeft some_in cnodes (drop k cnodes) before now
+      → (n : ℕ) → is_member n now ≡ (is_member n before || list_any (λ c. is_member c.cnode cnodes && test c n) capabilities)
+  cnodes-end cnodes k before now past so_far n =
+      left-none some_in cnodes (drop k cnodes) before now (drop_all k cnodes past) so_far n ∙ ap (λ b. is_member n before || b) (in-all cnodes n)
+
 -- ---- items by their numbers
 
 module _ {A : Type 0} (xs : List A) (n : ℕ) where
   pub numbered-next : (x : A) → slice_get xs n ≡ Some x → enumerate_from n (drop n xs) ≡ (n, x) ∷ enumerate_from (n + 1) (drop (n + 1) xs)
   numbered-next x is =
-      let at : get_or xs n x ≡ x = get_or_from_slice_get xs n x x is in
-      let rest : drop n xs ≡ x ∷ drop (n + 1) xs = rw (add-one n) (drop-cons xs n x (slice_get_within xs n x is) ∙ ap (λ y. y ∷ drop (suc n) xs) at) in
-      ap (enumerate_from n) rest
+      ap (enumerate_from n) (drop-next xs n x is)
 
   pub numbered-none : length xs ≤ n → enumerate_from n (drop n xs) ≡ []
   numbered-none le = ap (enumerate_from n) (drop_all n xs le)

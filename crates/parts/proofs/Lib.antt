@@ -1,4 +1,5 @@
 mod AloneImages
+mod Apart
 mod Left
 mod OfThreads
 mod Outside

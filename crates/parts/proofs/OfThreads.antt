@@ -50,48 +50,49 @@ module _ (image : Image) (t : Thread) (n : ℕ) (header : ThreadHeader) (cnodes 
   -- what it takes: what it maps, what its capabilities name that read, and its buffer
   pub takes-of : (mapped held all : List ℕ) → is_member n mapped ≡ (is_member n none || list_any (λ f. f.root == header.root && f.frame == n) image.frames)
       → is_member n held
-      ≡ (is_member n mapped || list_any (λ c. (is_member c.cnode cnodes && takes_by image c) && c.source == n) image.capabilities)
+      ≡ (is_member n mapped || list_any (λ c. is_member c.cnode cnodes && (takes_by image c && c.source == n)) image.capabilities)
       → is_member n all ≡ (is_member n held || header.buffer == n)
       → is_member n all ≡ takes image t n
   unfolding takes
   takes-of mapped held all maps holds buffer =
       buffer ∙ ap (λ b. b || header.buffer == n) holds
-      ∙ ap (λ b. (b || list_any (λ c. (is_member c.cnode cnodes && takes_by image c) && c.source == n) image.capabilities) || header.buffer == n)
+      ∙ ap (λ b. (b || list_any (λ c. is_member c.cnode cnodes && (takes_by image c && c.source == n)) image.capabilities) || header.buffer == n)
       (maps ∙ ap (λ (s : List ℕ). is_member n s || list_any (λ f. f.root == header.root && f.frame == n) image.frames) empty)
       ∙ ap (λ (s : List ℕ). (list_any (λ f. f.root == header.root && f.frame == n) image.frames
-      || list_any (λ c. (is_member c.cnode s && takes_by image c) && c.source == n) image.capabilities) || header.buffer == n) found
+      || list_any (λ c. is_member c.cnode s && (takes_by image c && c.source == n)) image.capabilities) || header.buffer == n) found
       ∙ ap (λ (h : ThreadHeader). (list_any (λ f. f.root == h.root && f.frame == n) image.frames
-      || list_any (λ c. (is_member c.cnode (reached image t) && takes_by image c) && c.source == n) image.capabilities) || h.buffer == n) head
+      || list_any (λ c. is_member c.cnode (reached image t) && (takes_by image c && c.source == n)) image.capabilities) || h.buffer == n) head
       ∙ ap (λ b. (list_any (λ f. f.root == t.header.root && f.frame == n) image.frames || b) || t.header.buffer == n)
-      (any-same (λ c. (is_member c.cnode (reached image t) && takes_by image c) && c.source == n)
+      (any-same (λ c. is_member c.cnode (reached image t) && (takes_by image c && c.source == n))
       (λ c. is_member c.cnode (reached image t) && (c.source == n && takes_by image c)) image.capabilities
-      (λ c. later (is_member c.cnode (reached image t)) (takes_by image c) (c.source == n)))
+      (λ c. ap (λ b. is_member c.cnode (reached image t) && b) (turned (takes_by image c) (c.source == n))))
 
   -- what it may change: what it maps to write, what its capabilities name that write or receive, its buffer, and what its lines signal
-  pub changes-of : (mapped held both all sources : List ℕ)
+  pub changes-of : (mapped held both all unnamed sources : List ℕ)
       → is_member n mapped ≡ (is_member n none || list_any (λ f. (f.root == header.root && may_write (rights f.rights)) && f.frame == n) image.frames)
       → is_member n held
-      ≡ (is_member n mapped || list_any (λ c. (is_member c.cnode cnodes && changes_by image c) && c.source == n) image.capabilities)
+      ≡ (is_member n mapped || list_any (λ c. is_member c.cnode cnodes && (changes_by image c && c.source == n)) image.capabilities)
       → is_member n both ≡ (is_member n held || header.buffer == n)
       → is_member n all
       ≡ (is_member n both || list_any (λ i. is_member (image.header.objects + i.0) sources && (i.1).notification == n) (numbered image.interrupts))
-      → ((m : ℕ) → is_member m sources ≡ list_any (λ c. is_member c.cnode cnodes && c.source == m) image.capabilities)
+      → unnamed ≡ []
+      → ((m : ℕ) → is_member m sources ≡ (is_member m unnamed || list_any (λ c. is_member c.cnode cnodes && c.source == m) image.capabilities))
       → is_member n all ≡ changes image t n
   unfolding changes
-  changes-of mapped held both all sources maps holds buffer lines named =
+  changes-of mapped held both all unnamed sources maps holds buffer lines nobody named =
       lines
       ∙ ap (λ b. b || list_any (λ i. is_member (image.header.objects + i.0) sources && (i.1).notification == n) (numbered image.interrupts))
       (buffer ∙ ap (λ b. b || header.buffer == n)
-      (holds ∙ ap (λ b. b || list_any (λ c. (is_member c.cnode cnodes && changes_by image c) && c.source == n) image.capabilities)
+      (holds ∙ ap (λ b. b || list_any (λ c. is_member c.cnode cnodes && (changes_by image c && c.source == n)) image.capabilities)
       (maps ∙ ap (λ (s : List ℕ). is_member n s || list_any (λ f. (f.root == header.root && may_write (rights f.rights)) && f.frame == n) image.frames) empty
       ∙ any-same (λ f. (f.root == header.root && may_write (rights f.rights)) && f.frame == n)
       (λ f. f.root == header.root && (f.frame == n && may_write (rights f.rights))) image.frames
       (λ f. later (f.root == header.root) (may_write (rights f.rights)) (f.frame == n))
       ∙ ap (λ (h : ThreadHeader). list_any (λ f. f.root == h.root && (f.frame == n && may_write (rights f.rights))) image.frames) head)
       ∙ ap (λ b. list_any (λ f. f.root == t.header.root && (f.frame == n && may_write (rights f.rights))) image.frames || b)
-      (any-same (λ c. (is_member c.cnode cnodes && changes_by image c) && c.source == n)
+      (any-same (λ c. is_member c.cnode cnodes && (changes_by image c && c.source == n))
       (λ c. is_member c.cnode cnodes && (c.source == n && changes_by image c)) image.capabilities
-      (λ c. later (is_member c.cnode cnodes) (changes_by image c) (c.source == n))
+      (λ c. ap (λ b. is_member c.cnode cnodes && b) (turned (changes_by image c) (c.source == n)))
       ∙ ap (λ (s : List ℕ). list_any (λ c. is_member c.cnode s && (c.source == n && changes_by image c)) image.capabilities) found))
       ∙ ap (λ (h : ThreadHeader). (list_any (λ f. f.root == t.header.root && (f.frame == n && may_write (rights f.rights))) image.frames
       || list_any (λ c. is_member c.cnode (reached image t) && (c.source == n && changes_by image c)) image.capabilities) || h.buffer == n) head)
@@ -103,6 +104,8 @@ module _ (image : Image) (t : Thread) (n : ℕ) (header : ThreadHeader) (cnodes 
       (λ i. turned (is_member (image.header.objects + i.0) sources) ((i.1).notification == n)
       ∙ ap (λ b. (i.1).notification == n && b)
       (named (image.header.objects + i.0)
+      ∙ ap (λ (s : List ℕ). is_member (image.header.objects + i.0) s
+      || list_any (λ c. is_member c.cnode cnodes && c.source == image.header.objects + i.0) image.capabilities) nobody
       ∙ ap (λ (s : List ℕ). list_any (λ c. is_member c.cnode s && c.source == image.header.objects + i.0) image.capabilities) found)))
 
 -- ---- all threads

@@ -14,7 +14,7 @@ use Rattle.model.specs.Kernel.State.{State}
 use Rattle.parts.specs.Outside.{HoldNothingTaken}
 
 -- what passes of all numbers passes of each
-all-in : (p : ℕ → Bool) (k n o : ℕ) → k ≤ o → o < k + n → list_all p (range_with_len k n) ≡ true → p o ≡ true
+pub all-in : (p : ℕ → Bool) (k n o : ℕ) → k ≤ o → o < k + n → list_all p (range_with_len k n) ≡ true → p o ≡ true
 all-in p k zero o low high all = let none : ⊥ = omega (arith, low, high) in absurd none
 all-in p k (suc n) o low high all =
     let both = and_parts (p k) (list_all p (range_with_len (k + 1) n)) all in

@@ -1,6 +1,6 @@
 //! The threads of an accepted image, with what each takes and may change.
 
-ghost use Rattle.std.specs.Prelude.{◌≡◌, ◌==◌, ◌&&◌, not, All, IfErr, IfOk, List};
+ghost use Rattle.std.specs.Prelude.{◌≡◌, ◌==◌, ◌&&◌, not, nat_lt, All, IfErr, IfOk, List};
 ghost use Rattle.std.specs.Int.{bit_at};
 ghost use Rattle.std.specs.List.{list_all, range_with_len};
 ghost use Rattle.headline.specs.parts.Given.{AllHoldGiven};
@@ -80,12 +80,19 @@ pub(crate) fn is_taken(taker: &Uses, other: &Uses, object: u32) -> bool
     taker.takes.contains(object) && other.changes.contains(object)
 }
 
-/// Whether one thread takes none of so many objects that another may change.
-fn is_apart(objects: u32, taker: &Uses, other: &Uses) -> bool
+/// Whether a thread may change this object, if it is one of so many.
+fn may_change(objects: u32, other: &Uses, object: u32) -> bool
+    ensures { result ≡ (nat_lt object objects && is_member object other.now.changes) }
+{
+    object < objects && other.changes.contains(object)
+}
+
+/// Whether one thread takes none of so many objects that another may change. It goes through those that it takes.
+pub(crate) fn is_apart(objects: u32, taker: &Uses, other: &Uses) -> bool
     ensures { result ≡ list_all (λ object. not (is_member object taker.now.takes && is_member object other.now.changes)) (range_with_len 0 objects) }
 {
-    for object in 0..objects {
-        if is_taken(taker, other, object) {
+    for place in 0..taker.takes.len() {
+        if may_change(objects, other, taker.takes.at(place)) {
             return false;
         }
     }
@@ -105,6 +112,9 @@ fn is_separate(objects: u32, all: &[Uses], threads: u64, taker: &Uses, other: &U
 fn takes_nothing_from_all(objects: u32, all: &[Uses], threads: u64, taker: &Uses) -> bool
     ensures { result ≡ list_all (is_separate objects threads all.now taker.now) all.now }
 {
+    if !is_in(all, threads, taker.tcb) {
+        return true;
+    }
     for other in all {
         if !is_separate(objects, all, threads, taker, other) {
             return false;
@@ -136,6 +146,9 @@ fn is_high(all: &[Uses], threads: u64, own: &Uses, other: &Uses) -> bool
 fn is_above_all(all: &[Uses], threads: u64, own: &Uses) -> bool
     ensures { result ≡ list_all (is_high threads all.now own.now) all.now }
 {
+    if !is_in(all, threads, own.tcb) {
+        return true;
+    }
     for other in all {
         if !is_high(all, threads, own, other) {
             return false;
@@ -169,8 +182,8 @@ fn all_uses(alloc: Global, image: &ImageRef<'_>) -> Result<Vec<Uses>, Refusal>
     Ok(all)
 }
 
-/// The threads of an accepted image, with what each takes and may change. It takes time in proportion to the capabilities and mapped
-/// frames for each thread.
+/// The threads of an accepted image, with what each takes and may change. For each thread it goes over all
+/// mapped frames and lines of the machine, and over the capabilities that the thread reaches.
 ///
 /// # Errors
 ///
@@ -205,7 +218,8 @@ impl Parts<'_, '_> {
     }
 
     /// What threads of the part take and threads outside of it may change: in the order of the threads, of the others, and of the
-    /// objects. It takes time in proportion to the objects for each two threads.
+    /// objects. It takes time in proportion to what each thread takes, for each other thread, and to the objects for each two threads of
+    /// which one may change what the other takes.
     ///
     /// # Errors
     ///

@@ -3,7 +3,7 @@
 ghost use Rattle.std.specs.Prelude.{◌≡◌, ◌++◌, IfOk, OnOk, [], ◌∷◌, flat_map, if◌then◌else◌};
 ghost use Rattle.parts.specs.Taken.{taken_between, taken_inside, taken_outside};
 
-use crate::image_parts::{is_in, is_taken};
+use crate::image_parts::{is_apart, is_in, is_taken};
 use crate::uses::Uses;
 use std::alloc::{AllocError, Global};
 
@@ -37,6 +37,9 @@ fn note_between(
 ) -> Result<(), AllocError>
     ensures { OnOk result (found.new.items ≡ found.old.items ++ taken_between objects taker.now other.now) }
 {
+    if is_apart(objects, taker, other) {
+        return Ok(());
+    }
     for object in 0..objects {
         let passed = is_taken(taker, other, object);
         note_if(

@@ -10,7 +10,7 @@ ghost use Rattle.model.specs.Images.Image.{no_buffer};
 ghost use Rattle.model.specs.declared.refusals.Refusal.TheVariants.{OutOfMemory};
 ghost use Rattle.parts.specs.Uses.{IsUse};
 
-use image_reading::{ImageRef, ThreadRef, header_of};
+use image_reading::{ImageRef, ThreadRef, capability_of, header_of, listed_in};
 use model::{CapabilityEntry, FrameEntry, Refusal};
 use std::alloc::Global;
 use thread_spaces::reached_of;
@@ -64,50 +64,72 @@ fn may_read(word: u32) -> bool
 }
 
 /// Whether a thread takes what a capability of its own names.
-fn takes_by(image: &ImageRef<'_>, held: bool, entry: CapabilityEntry) -> bool
-    ensures { result ≡ (held && takes_by image.now entry) }
+fn takes_by(image: &ImageRef<'_>, entry: CapabilityEntry) -> bool
+    ensures { result ≡ takes_by image.now entry }
 {
-    held && (may_read(entry.rights)
-        || (is_endpoint(type_at(image, entry.source)) && may_write(entry.rights)))
+    may_read(entry.rights) || (is_endpoint(type_at(image, entry.source)) && may_write(entry.rights))
 }
 
 /// Whether a thread may change what a capability of its own names.
-fn changes_by(image: &ImageRef<'_>, held: bool, entry: CapabilityEntry) -> bool
-    ensures { result ≡ (held && changes_by image.now entry) }
+fn changes_by(image: &ImageRef<'_>, entry: CapabilityEntry) -> bool
+    ensures { result ≡ changes_by image.now entry }
 {
-    held && (may_write(entry.rights)
-        || (!is_frame(type_at(image, entry.source)) && may_read(entry.rights)))
+    may_write(entry.rights) || (!is_frame(type_at(image, entry.source)) && may_read(entry.rights))
 }
 
-/// One capability that is listed more, if the thread reaches its CNode.
+/// One capability that is listed more: what it names, whether the thread takes it, and whether it may change it.
 fn note_capability(
     image: &ImageRef<'_>,
-    held: bool,
     entry: CapabilityEntry,
+    sources: &mut NumberSet,
     takes: &mut NumberSet,
     changes: &mut NumberSet,
 ) -> Result<(), Refusal>
-    ensures takes { OnOk result ((n : ℕ) → is_member n takes.new ≡ (is_member n takes.old || ((held && takes_by image.now entry) && entry.source == n))) }
-    ensures changes { OnOk result ((n : ℕ) → is_member n changes.new ≡ (is_member n changes.old || ((held && changes_by image.now entry) && entry.source == n))) }
+    ensures sources { OnOk result ((n : ℕ) → is_member n sources.new ≡ (is_member n sources.old || entry.source == n)) }
+    ensures takes { OnOk result ((n : ℕ) → is_member n takes.new ≡ (is_member n takes.old || (takes_by image.now entry && entry.source == n))) }
+    ensures changes { OnOk result ((n : ℕ) → is_member n changes.new ≡ (is_member n changes.old || (changes_by image.now entry && entry.source == n))) }
     ensures memory { IfErr result (λ refusal. refusal ≡ OutOfMemory) }
 {
-    put_if(takes, takes_by(image, held, entry), entry.source)?;
-    put_if(changes, changes_by(image, held, entry), entry.source)
+    put_if(sources, true, entry.source)?;
+    put_if(takes, takes_by(image, entry), entry.source)?;
+    put_if(changes, changes_by(image, entry), entry.source)
+}
+
+/// The capabilities in one CNode.
+fn note_listed(
+    image: &ImageRef<'_>,
+    cnode: u32,
+    sources: &mut NumberSet,
+    takes: &mut NumberSet,
+    changes: &mut NumberSet,
+) -> Result<(), Refusal>
+    ensures sources { OnOk result ((n : ℕ) → is_member n sources.new ≡ (is_member n sources.old || list_any (λ c. c.cnode == cnode && c.source == n) image.now.capabilities)) }
+    ensures takes { OnOk result ((n : ℕ) → is_member n takes.new ≡ (is_member n takes.old || list_any (λ c. c.cnode == cnode && (takes_by image.now c && c.source == n)) image.now.capabilities)) }
+    ensures changes { OnOk result ((n : ℕ) → is_member n changes.new ≡ (is_member n changes.old || list_any (λ c. c.cnode == cnode && (changes_by image.now c && c.source == n)) image.now.capabilities)) }
+    ensures memory { IfErr result (λ refusal. refusal ≡ OutOfMemory) }
+{
+    let listed = listed_in(image, cnode);
+    for number in listed.first..listed.end {
+        note_capability(image, capability_of(image, number), sources, takes, changes)?;
+    }
+    Ok(())
 }
 
 /// The capabilities in these CNodes.
 fn note_capabilities(
     image: &ImageRef<'_>,
     cnodes: &NumberSet,
+    sources: &mut NumberSet,
     takes: &mut NumberSet,
     changes: &mut NumberSet,
 ) -> Result<(), Refusal>
-    ensures takes { OnOk result ((n : ℕ) → is_member n takes.new ≡ (is_member n takes.old || list_any (λ c. (is_member c.cnode cnodes.now && takes_by image.now c) && c.source == n) image.now.capabilities)) }
-    ensures changes { OnOk result ((n : ℕ) → is_member n changes.new ≡ (is_member n changes.old || list_any (λ c. (is_member c.cnode cnodes.now && changes_by image.now c) && c.source == n) image.now.capabilities)) }
+    ensures sources { OnOk result ((n : ℕ) → is_member n sources.new ≡ (is_member n sources.old || list_any (λ c. is_member c.cnode cnodes.now && c.source == n) image.now.capabilities)) }
+    ensures takes { OnOk result ((n : ℕ) → is_member n takes.new ≡ (is_member n takes.old || list_any (λ c. is_member c.cnode cnodes.now && (takes_by image.now c && c.source == n)) image.now.capabilities)) }
+    ensures changes { OnOk result ((n : ℕ) → is_member n changes.new ≡ (is_member n changes.old || list_any (λ c. is_member c.cnode cnodes.now && (changes_by image.now c && c.source == n)) image.now.capabilities)) }
     ensures memory { IfErr result (λ refusal. refusal ≡ OutOfMemory) }
 {
-    for entry in image.capabilities() {
-        note_capability(image, cnodes.contains(entry.cnode), entry, takes, changes)?;
+    for place in 0..cnodes.len() {
+        note_listed(image, cnodes.at(place), sources, takes, changes)?;
     }
     Ok(())
 }
@@ -179,18 +201,6 @@ fn note_lines(
     Ok(())
 }
 
-/// What the capabilities in these CNodes name.
-fn sources_of(alloc: Global, image: &ImageRef<'_>, cnodes: &NumberSet) -> Result<NumberSet, Refusal>
-    ensures sources { IfOk result (λ sources. (n : ℕ) → is_member n sources ≡ list_any (λ c. is_member c.cnode cnodes.now && c.source == n) image.now.capabilities) }
-    ensures memory { IfErr result (λ refusal. refusal ≡ OutOfMemory) }
-{
-    let mut sources = NumberSet::new(alloc);
-    for entry in image.capabilities() {
-        put_if(&mut sources, cnodes.contains(entry.cnode), entry.source)?;
-    }
-    Ok(sources)
-}
-
 /// What a thread takes and what it may change.
 pub(crate) fn uses_of(
     alloc: Global,
@@ -204,11 +214,11 @@ pub(crate) fn uses_of(
 {
     let header = thread.header();
     let cnodes = reached_of(alloc, image, thread)?;
-    let sources = sources_of(alloc, image, &cnodes)?;
+    let mut sources = NumberSet::new(alloc);
     let mut takes = NumberSet::new(alloc);
     let mut changes = NumberSet::new(alloc);
     note_frames(image, header.root, &mut takes, &mut changes)?;
-    note_capabilities(image, &cnodes, &mut takes, &mut changes)?;
+    note_capabilities(image, &cnodes, &mut sources, &mut takes, &mut changes)?;
     note_buffer(header.buffer, &mut takes, &mut changes)?;
     note_lines(image, &sources, &mut changes)?;
     Ok(Uses {

@@ -1,8 +1,12 @@
 -- By one item more.
 use Rattle.std.proofs.Common.{◌∙◌, sym}
 use Rattle.parts.specs.Uses.{is_high}
+use Rattle.parts.proofs.Apart.{outside-high}
 use Rattle.parts.proofs.Left.{all-end, all-fails, all-more}
 use Rattle.parts.proofs.image_parts.is_above_all.Goals as goal
+
+pub returns-then-not-is_in : goal.returns-then-not-is_in
+returns-then-not-is_in c = outside-high c.args.threads c.args.all.now c.args.own.now c.is_in.result c.is_in.ensures c.if-not-is_in.true
 
 pub returns-then-not-is_high : goal.returns-then-not-is_high
 returns-then-not-is_high c =

@@ -1,20 +1,29 @@
--- By one number more.
-use Rattle.std.proofs.Common.{◌∙◌, ◌&&◌, not, sym, ap}
-use Rattle.model.specs.Acceptance.ThreadRules.{is_member}
-use Rattle.parts.proofs.Left.{number-fails, number-later, number-none}
+-- By one object more that the thread takes.
+use Rattle.std.proofs.Common.{◌∙◌, ◌≤◌, length, not, sym, ap, arith}
+use Rattle.std.proofs.lemmas.Option.{get_or_from_slice_get}
+use Rattle.parts.proofs.Apart.{apart-is, keeps}
+use Rattle.parts.proofs.Left.{all-end, all-fails, all-more}
 use Rattle.parts.proofs.image_parts.is_apart.Goals as goal
 
-pub returns-then-is_taken : goal.returns-then-is_taken
-returns-then-is_taken c =
-    number-fails (λ object. not (is_member object c.args.taker.now.takes && is_member object c.args.other.now.changes)) c.args.objects c.loop-object.object _
-    c.loop-object-test.true (ap not (sym c.is_taken.ensures ∙ c.if-is_taken.true)) c.loop-object.invariant
+pub returns-then-may_change : goal.returns-then-may_change
+returns-then-may_change c =
+    let takes = c.args.taker.now.takes in
+    let changes = c.args.other.now.changes in
+    all-fails (keeps c.args.objects takes changes) takes c.loop-place.place c.at.result (omega (arith, c.loop-place-test.true, c.len-place-end.ensures))
+    (sym (get_or_from_slice_get takes c.loop-place.place c.at.result c.at.result c.at.ensures)) (ap not (sym c.may_change.ensures ∙ c.if-may_change.true))
+    ∙ apart-is c.args.objects takes changes
 
-pub loop-object-preserved : goal.loop-object-preserved
-loop-object-preserved c =
-    number-later (λ object. not (is_member object c.args.taker.now.takes && is_member object c.args.other.now.changes)) c.args.objects c.loop-object.object _
-    c.loop-object-test.true (ap not (sym c.is_taken.ensures ∙ c.if-is_taken.false)) c.loop-object.invariant
+pub loop-place-preserved : goal.loop-place-preserved
+loop-place-preserved c =
+    let takes = c.args.taker.now.takes in
+    let changes = c.args.other.now.changes in
+    all-more (keeps c.args.objects takes changes) takes c.loop-place.place c.at.result (omega (arith, c.loop-place-test.true, c.len-place-end.ensures))
+    (sym (get_or_from_slice_get takes c.loop-place.place c.at.result c.at.result c.at.ensures)) (ap not (sym c.may_change.ensures ∙ c.if-may_change.false))
+    c.loop-place.invariant
 
 pub returns : goal.returns
 returns c =
-    number-none (λ object. not (is_member object c.args.taker.now.takes && is_member object c.args.other.now.changes)) c.args.objects c.loop-object.object _
-    c.loop-object-test.false c.loop-object.invariant
+    let takes = c.args.taker.now.takes in
+    let changes = c.args.other.now.changes in
+    let past : length takes ≤ c.loop-place.place = omega (arith, c.loop-place-test.false, c.len-place-end.ensures) in
+    all-end (keeps c.args.objects takes changes) takes c.loop-place.place past c.loop-place.invariant ∙ apart-is c.args.objects takes changes

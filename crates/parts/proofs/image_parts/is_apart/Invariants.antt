@@ -1,10 +1,8 @@
--- The numbers that are left decide.
-use Rattle.std.proofs.Common.{◌≡◌, ◌-◌, ◌&&◌, not}
-use Rattle.std.specs.List.{list_all, range_with_len}
-use Rattle.model.specs.Acceptance.ThreadRules.{is_member}
+-- The other may change none of those so far.
+use Rattle.std.proofs.Common.{◌≡◌, true, take}
+use Rattle.std.specs.List.{list_all}
+use Rattle.parts.proofs.Apart.{keeps}
 use Rattle.parts.proofs.image_parts.is_apart.Given as goal
 
-abbrev pub invariant-loop-object : goal.invariant-loop-object
-invariant-loop-object l =
-    list_all (λ object. not (is_member object l.fn.taker.takes && is_member object l.fn.other.changes)) (range_with_len l.object (l.fn.objects - l.object))
-    ≡ list_all (λ object. not (is_member object l.fn.taker.takes && is_member object l.fn.other.changes)) (range_with_len 0 l.fn.objects)
+abbrev pub invariant-loop-place : goal.invariant-loop-place
+invariant-loop-place l = list_all (keeps l.fn.objects l.fn.taker.takes l.fn.other.changes) (take l.place l.fn.taker.takes) ≡ true

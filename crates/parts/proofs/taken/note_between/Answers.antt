@@ -1,8 +1,15 @@
 -- By one object more.
 use Rattle.std.proofs.Common.{◌&&◌}
 use Rattle.model.specs.Acceptance.ThreadRules.{is_member}
+use Rattle.parts.proofs.Apart.{nothing-found}
 use Rattle.parts.proofs.TakenLists.{object-next, object-none}
 use Rattle.parts.proofs.taken.note_between.Goals as goal
+
+pub returns-then-is_apart : goal.returns-then-is_apart
+returns-then-is_apart c =
+    nothing-found (λ object. record { taker = c.args.taker.now.number; object = object; other = c.args.other.now.number })
+    (λ object. is_member object c.args.taker.now.takes && is_member object c.args.other.now.changes) c.args.objects c.is_apart.result
+    c.args.found.now.items c.is_apart.ensures c.if-is_apart.true
 
 pub loop-object-preserved : goal.loop-object-preserved
 loop-object-preserved c =

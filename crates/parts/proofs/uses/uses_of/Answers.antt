@@ -21,8 +21,9 @@ returns-clause-uses c =
       changes_these = λ n other.
           changes-of image t n h cnodes c.new-changes.result c.header-header.ensures c.in_ok-cnodes.ensures.found c.new-changes.ensures
           c.note_frames.new.changes
-          c.note_capabilities.new.changes c.note_buffer.new.changes c.note_lines.new.changes c.in_ok-sources.sources (c.in_ok-note_frames.ensures.changes n)
+          c.note_capabilities.new.changes c.note_buffer.new.changes c.note_lines.new.changes c.new-sources.result c.note_capabilities.new.sources
+          (c.in_ok-note_frames.ensures.changes n)
           (c.in_ok-note_capabilities.ensures.changes n) (c.in_ok-note_buffer.ensures.changes n
           ∙ ap (λ b. is_member n c.note_capabilities.new.changes || b) (noted h.buffer n other)) (c.in_ok-note_lines.ensures.changes n)
-          c.in_ok-sources.ensures.sources;
+          c.new-sources.ensures c.in_ok-note_capabilities.ensures.sources;
     }
