@@ -10,6 +10,7 @@ pub use Rattle.response.proofs.Doors.{accepts-rests, counted-there, gate-there, 
 pub use Rattle.response.proofs.EachEvent.{holds-after}
 pub use Rattle.response.proofs.InterruptedThreads.{thread-left}
 pub use Rattle.response.proofs.Interrupts.{put-at, put-off, thread-of}
+pub use Rattle.response.proofs.MessagePassing.{answers-so, rings-with-so}
 pub use Rattle.response.proofs.MessageRests.{owes-less}
 pub use Rattle.response.proofs.NamedNow.{asks-so, named-is}
 pub use Rattle.response.proofs.OneMessage.{accepts, calls, count, goes, own, runs-is, sends, waits_so}
@@ -17,7 +18,9 @@ pub use Rattle.response.proofs.OwnCalls.{OthersWait, pc_at, replied-there, same-
 pub use Rattle.response.proofs.OwnMessages.{ReceiveEnds, SendEnds, TakeEnds, block-off, caller-off, delivered-pc, got_one, got_word, passes-off, sent-off}
 pub use Rattle.response.proofs.OwnMessages.{sent_awaits, sent_passed, sent_queued, sent_stopped, stays_on, stays_there, wake-off, wake-status}
 pub use Rattle.response.proofs.OwnSteps.{doors-apart, invoked-leaves}
+pub use Rattle.response.proofs.Passing.{acknowledged-so, any-found, asked-each, at-start, edge-passes, known-at, or-then, pays-so, rates-so, tended-by}
 pub use Rattle.response.proofs.PlainPoints.{asks-none}
+pub use Rattle.response.proofs.Quietly.{all-at}
 pub use Rattle.response.proofs.Rung.{asks-of}
 pub use Rattle.response.proofs.Tended.{bell-there}
 pub use Rattle.response.proofs.TendedLines.{dealt-with}

@@ -20,7 +20,7 @@ use Rattle.response.specs.Laws.{HaveRates, RingsFit, left_after}
 use Rattle.response.specs.Left.{at_rest, irq_lines, left, line_price}
 use Rattle.response.specs.Levels.{is_of_level}
 use Rattle.response.specs.Rates.{Rate, cost_of, costs_within}
-use Rattle.response.specs.Resting.{AreAcknowledged, AreTakenAlone, IsAcknowledged, TakesFromOne, marks_for}
+use Rattle.response.specs.Resting.{AreAcknowledged, AreTakenAlone, IsAcknowledged, IsTended, TakesFromOne, marks_for}
 use Rattle.response.specs.Responding.{OpenLine, Response, acknowledged_by_one, acknowledges, are_priced, asks_each, at_each, have_rates, is_acknowledged}
 use Rattle.response.specs.Responding.{is_open_by, is_taken_by, leaves, over_edges, pay_for_level}
 use Rattle.response.specs.Responding.{passes, passes_rested, rest_of, rests_at, ring_fits, rings_fit}
@@ -34,7 +34,7 @@ use Rattle.response.proofs.Woken.{point-of}
 -- ---- lists
 
 -- one of a list passes
-any-found : {A : Type 0} (test : A → Bool) (xs : List A) → list_any test xs ≡ true → (x : A) × Contains xs x × (test x ≡ true)
+pub any-found : {A : Type 0} (test : A → Bool) (xs : List A) → list_any test xs ≡ true → (x : A) × Contains xs x × (test x ≡ true)
 any-found test [] any = absurd (let clash : false ≡ true = any in cc)
 any-found test (x ∷ xs) any = elim (or_cases (test x) (list_any test xs) any) [
   | inl here ↦ (x, (0, omega arith, refl), here)
@@ -148,7 +148,7 @@ taken-alone image priority r all queue here =
 
 -- ---- lines
 
-leaves-takes : (queue : ℕ) (is_one : Bool) (asked : Asked) → leaves queue is_one asked ≡ true → asked ≡ Takes queue → is_one ≡ true
+pub leaves-takes : (queue : ℕ) (is_one : Bool) (asked : Asked) → leaves queue is_one asked ≡ true → asked ≡ Takes queue → is_one ≡ true
 leaves-takes queue is_one asked leaves_it is =
     by-one is_one (sym (ap (leaves queue is_one) is) ∙ leaves_it)
   where
@@ -156,17 +156,47 @@ leaves-takes queue is_one asked leaves_it is =
     by-one true either = refl
     by-one false either = absurd (let clash : false ≡ true = sym (ap not (eq-eqb queue queue refl)) ∙ either in cc)
 
-leaves-polls : (queue : ℕ) (is_one : Bool) (asked : Asked) → leaves queue is_one asked ≡ true → asked ≡ Polls queue → ⊥
+pub leaves-polls : (queue : ℕ) (is_one : Bool) (asked : Asked) → leaves queue is_one asked ≡ true → asked ≡ Polls queue → ⊥
 leaves-polls queue is_one asked leaves_it is =
     let clash : false ≡ true = sym (ap not (eq-eqb queue queue refl)) ∙ sym (ap (leaves queue is_one) is) ∙ leaves_it in absurd cc
 
+pub not-zero : (n : ℕ) → not (n == 0) ≡ true → n ≡ 0 → ⊥
+not-zero n is none = let clash : false ≡ true = sym (ap not (eq-eqb n 0 none)) ∙ is in absurd cc
+
 module _ (image : Image) (priority : ℕ)
     (own : (u t : Numbered) → Contains (numbered_threads image) u → Contains (numbered_threads image) t → tcb_of image u ≡ tcb_of image t → u ≡ t) where
-  others-leave : (t : Numbered) (bound : Signal)
+  pub others-leave : (t : Numbered) (bound : Signal)
       → list_all (λ (v : Numbered). asks_each image v (leaves bound.notification (tcb_of image v == tcb_of image t))) (numbered_threads image) ≡ true
       → (u : Numbered) → Contains (numbered_threads image) u → asks_each image u (leaves bound.notification (tcb_of image u == tcb_of image t)) ≡ true
   others-leave t bound all u among =
       all-at (λ (v : Numbered). asks_each image v (leaves bound.notification (tcb_of image v == tcb_of image t))) (numbered_threads image) u among all
+
+  -- The thread tends the line, by the parts of the test that say so.
+  abbrev pub tended-by : (l : OpenLine) (t : Numbered) (bound : Signal) → Contains (numbered_threads image) t
+      → binding (described image) l.line ≡ Some bound → not (bound.badge == 0) ≡ true
+      → list_all (λ (v : Numbered). asks_each image v (leaves bound.notification (tcb_of image v == tcb_of image t))) (numbered_threads image) ≡ true
+      → over_edges image t (λ asked here after. marks_for l.line (l.marks here) (l.marks after) asked) ≡ true → IsTended image l.line
+  tended-by l t bound listed is some left kept =
+      record {
+        thread = t;
+        listed = listed;
+        queue = bound.notification;
+        badge = bound.badge;
+        bound = is;
+        some = not-zero bound.badge some;
+        alone = λ u point state among inside known asks.
+            own u t among listed (eqb-true (tcb_of image u) (tcb_of image t)
+            (leaves-takes bound.notification (tcb_of image u == tcb_of image t) (asked_at image u.thread point state)
+            (asked-each image u (leaves bound.notification (tcb_of image u == tcb_of image t)) (others-leave t bound left u among) point state inside known)
+            asks));
+        unpolled = λ u point state among inside known asks.
+            leaves-polls bound.notification (tcb_of image u == tcb_of image t) (asked_at image u.thread point state)
+            (asked-each image u (leaves bound.notification (tcb_of image u == tcb_of image t)) (others-leave t bound left u among) point state inside known)
+            asks;
+        marks = l.marks;
+        marked = λ point state next inside known leads.
+            edge-passes image t (λ asked here after. marks_for l.line (l.marks here) (l.marks after) asked) kept point state next inside known leads;
+      }
 
   by-thread : (l : OpenLine) (t : Numbered) (bound : Signal) → Contains (numbered_threads image) t → binding (described image) l.line ≡ Some bound
       → acknowledges image priority l t bound ≡ true → IsAcknowledged image priority l.line
@@ -179,26 +209,7 @@ module _ (image : Image) (priority : ℕ)
       record {
         level = one.0;
         one = takes-one image t bound.notification three.0;
-        tended = record {
-          thread = t;
-          listed = listed;
-          queue = bound.notification;
-          badge = bound.badge;
-          bound = is;
-          some = λ zero_badge. absurd (let clash : false ≡ true = sym (ap not (eq-eqb bound.badge 0 zero_badge)) ∙ two.0 in cc);
-          alone = λ u point state among inside known asks.
-              own u t among listed (eqb-true (tcb_of image u) (tcb_of image t)
-              (leaves-takes bound.notification (tcb_of image u == tcb_of image t) (asked_at image u.thread point state)
-              (asked-each image u (leaves bound.notification (tcb_of image u == tcb_of image t)) (others-leave t bound four.0 u among) point state inside
-              known) asks));
-          unpolled = λ u point state among inside known asks.
-              leaves-polls bound.notification (tcb_of image u == tcb_of image t) (asked_at image u.thread point state)
-              (asked-each image u (leaves bound.notification (tcb_of image u == tcb_of image t)) (others-leave t bound four.0 u among) point state inside
-              known) asks;
-          marks = l.marks;
-          marked = λ point state next inside known leads.
-              edge-passes image t (λ asked here after. marks_for l.line (l.marks here) (l.marks after) asked) four.1 point state next inside known leads;
-        };
+        tended = tended-by l t bound listed is two.0 four.0 four.1;
       }
 
   by-binding : (l : OpenLine) (bound : Option Signal) → binding (described image) l.line ≡ bound → acknowledged_by_one image priority l bound ≡ true

@@ -5,3 +5,6 @@ mod OwedSteps
 mod OwedEvents
 mod Owing
 mod AtBell
+mod Openings
+mod PassedSettled
+mod HeldSettled

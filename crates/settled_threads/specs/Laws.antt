@@ -16,10 +16,12 @@ use Rattle.response.specs.Left.{line_price}
 use Rattle.response.specs.Levels.{KeepsLevel, KeepsLevelOnceRested, is_level_label}
 use Rattle.response.specs.Owed.{IsLeftAtRest, OweBelow, PayAnswers, RingsFitWith, asked_there, at_rest_with, owed_of_thread}
 use Rattle.response.specs.Rates.{Keeps, Rate, costs_within, steps_in}
+use Rattle.response.specs.Responding.{DealsOnceRested, DealsWithin, OpenLine, RespondsOnceRested, RespondsWithin, Response, is_acknowledged, is_open_by}
 use Rattle.response.specs.Resting.{IsTended}
 use Rattle.response.specs.Weights.{Pays, Weights}
 use Rattle.settled_threads.specs.Answering.{IsAnswered, IsOwed}
 use Rattle.settled_threads.specs.Settled.{AreInputs, AreSettled, AreTended, OthersOweAtMost, Settling, WaitsAtInput}
+use Rattle.settled_threads.specs.Tested.{RestsAtInput, Settlement, TendsOnceRested, TendsWithin, passes_settled, passes_settled_rested}
 
 -- whoever waits for an answer of an endpoint that answers is owed it
 abbrev pub CallersAreOwed : Type 0
@@ -105,3 +107,49 @@ SettledLinesAreDealtWithLater =
     → is_level_label image priority (step (state_after (described image) first) Step).1 ≡ false
     → events ≡ ((first ++ Step ∷ []) ++ more) ++ window ++ later → n < steps_in window
     → HoldsWithin image n ((first ++ Step ∷ []) ++ more) window (IsDealtWith image number (tended number few here).0)
+
+-- ---- tested
+
+-- So it is where a response passes the test with settled threads,
+abbrev pub SettledResponsesHold : Type 0
+SettledResponsesHold =
+    (bytes : List ℕ) (image : Image) (priority : ℕ) (rates : List Rate) (r : Response) (s : Settlement) (owed_most : ℕ → ℕ) → IsAccepted bytes image
+    → passes_settled image priority rates r s owed_most ≡ true → RespondsWithin bytes priority rates r.steps
+
+abbrev pub RestedSettledResponsesHold : Type 0
+RestedSettledResponsesHold =
+    (bytes : List ℕ) (image : Image) (priority : ℕ) (rates : List Rate) (r : Response) (s : Settlement) (owed_most : ℕ → ℕ) → IsAccepted bytes image
+    → passes_settled_rested image priority rates r s owed_most ≡ true → RespondsOnceRested bytes priority rates r.steps
+
+-- its lines are dealt with,
+abbrev pub SettledResponsesDeal : Type 0
+SettledResponsesDeal =
+    (bytes : List ℕ) (image : Image) (priority : ℕ) (rates : List Rate) (r : Response) (s : Settlement) (owed_most : ℕ → ℕ) (number : ℕ)
+    → IsAccepted bytes image → passes_settled image priority rates r s owed_most ≡ true → number < 64 → is_open_by r number ≡ true
+    → TendsWithin bytes priority rates r.steps number
+
+abbrev pub RestedSettledResponsesDeal : Type 0
+RestedSettledResponsesDeal =
+    (bytes : List ℕ) (image : Image) (priority : ℕ) (rates : List Rate) (r : Response) (s : Settlement) (owed_most : ℕ → ℕ) (number : ℕ)
+    → IsAccepted bytes image → passes_settled_rested image priority rates r s owed_most ≡ true → number < 64 → is_open_by r number ≡ true
+    → TendsOnceRested bytes priority rates r.steps number
+
+-- so is each line that a thread acknowledges which waits for no message,
+abbrev pub AloneResponsesDeal : Type 0
+AloneResponsesDeal =
+    (bytes : List ℕ) (image : Image) (priority : ℕ) (rates : List Rate) (r : Response) (s : Settlement) (owed_most : ℕ → ℕ) (l : OpenLine)
+    → IsAccepted bytes image → passes_settled image priority rates r s owed_most ≡ true → l.line < 64 → is_acknowledged image priority l ≡ true
+    → DealsWithin bytes priority rates r.steps l.line
+
+abbrev pub RestedAloneResponsesDeal : Type 0
+RestedAloneResponsesDeal =
+    (bytes : List ℕ) (image : Image) (priority : ℕ) (rates : List Rate) (r : Response) (s : Settlement) (owed_most : ℕ → ℕ) (l : OpenLine)
+    → IsAccepted bytes image → passes_settled_rested image priority rates r s owed_most ≡ true → l.line < 64 → is_acknowledged image priority l ≡ true
+    → DealsOnceRested bytes priority rates r.steps l.line
+
+-- and its settled threads wait at their inputs wherever the level rests
+abbrev pub TestedThreadsRest : Type 0
+TestedThreadsRest =
+    (bytes : List ℕ) (image : Image) (priority : ℕ) (rates : List Rate) (r : Response) (s : Settlement) (owed_most : ℕ → ℕ) (number object : ℕ)
+    → IsAccepted bytes image → passes_settled_rested image priority rates r s owed_most ≡ true → s.settling.input number ≡ Some object
+    → RestsAtInput bytes priority number object

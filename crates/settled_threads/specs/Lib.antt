@@ -1,3 +1,4 @@
 pub mod Answering
 pub mod Settled
+pub mod Tested
 pub mod Laws

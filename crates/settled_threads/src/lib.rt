@@ -5,18 +5,20 @@
 
 ghost use Rattle.settled_threads.specs.Laws.{CallersAreOwed, SettledLeftAtRest, SettledLevelsRestLater, SettledLevelsRestWithin, SettledLinesAreDealtWith, SettledLinesAreDealtWithLater};
 ghost use Rattle.settled_threads.specs.Laws.{SettledThreadsDeal, SettledThreadsOweNothing, SettledThreadsRest};
+ghost use Rattle.settled_threads.specs.Laws.{AloneResponsesDeal, RestedAloneResponsesDeal, RestedSettledResponsesDeal, RestedSettledResponsesHold, SettledResponsesDeal, SettledResponsesHold, TestedThreadsRest};
 
 use headline::authority::{
     a_tick_stays_within_authority, an_interrupt_stays_within_authority,
     events_stay_within_authority,
 };
 use headline::invocations::{events_go_well, steps_go_well};
+use headline::kept::threads_have_their_own_blocks;
 use headline::measure_facts::measures_of_points_name_registers;
 use headline::parts::threads_are_told_apart;
 use headline::starts::threads_are_as_listed;
 use response::{
-    bindings_stay, laws_on_invocations, levels_come_to_rest, levels_rest_owing,
-    threads_wait_where_they_asked, waiters_take,
+    acknowledged_lines_rest, bindings_stay, laws_on_invocations, levels_come_to_rest,
+    levels_rest_owing, threads_wait_where_they_asked, waiters_take,
 };
 
 /// Whoever waits for an answer of an endpoint that answers is owed it.
@@ -97,4 +99,24 @@ pub fn settled_lines_are_dealt_with()
     levels_come_to_rest();
     settled_threads_deal();
     settled_levels_rest_within();
+}
+
+/// A response that passes the test with settled threads holds: no more steps on end are of the level than it says, each line that it opens is dealt
+/// with within as many, and so is each that a thread acknowledges which waits for no message; and its settled threads wait at their inputs wherever
+/// the level rests.
+pub fn tested_settled_responses_hold()
+    ensures steps { SettledResponsesHold }
+    ensures rested_steps { RestedSettledResponsesHold }
+    ensures lines { SettledResponsesDeal }
+    ensures rested_lines { RestedSettledResponsesDeal }
+    ensures alone { AloneResponsesDeal }
+    ensures rested_alone { RestedAloneResponsesDeal }
+    ensures inputs { TestedThreadsRest }
+{
+    threads_have_their_own_blocks();
+    levels_come_to_rest();
+    acknowledged_lines_rest();
+    settled_threads_rest();
+    settled_levels_rest_within();
+    settled_lines_are_dealt_with();
 }
