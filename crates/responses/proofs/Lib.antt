@@ -5,6 +5,7 @@ mod Threads
 mod Bindings
 mod Priced
 mod Paid
+mod SettledSeen
 mod Weighed
 mod Starts
 mod Whole

@@ -1,5 +1,5 @@
 -- The parts of the test by what is seen of threads are those by the image.
-use Rattle.std.proofs.Common.{ℕ, ◌≡◌, ◌∙◌, ◌+◌, ◌==◌, ◌&&◌, ◌||◌, Bool, true, false, not, if◌then◌else◌, Option, Some, None, List, map, refl, sym, ap}
+use Rattle.std.proofs.Common.{ℕ, ◌≡◌, ◌∙◌, ◌+◌, ◌==◌, ◌&&◌, ◌||◌, Bool, true, false, is_some, not, if◌then◌else◌, Option, Some, None, List, map, refl, sym, ap}
 use Rattle.std.specs.Prelude.{nat_le, slice_get}
 use Rattle.std.specs.List.{list_all}
 use Rattle.std.specs.Option.{option_map_or}
@@ -15,11 +15,13 @@ use Rattle.program_rules.specs.declared.views.ProgramView.{ProgramView}
 use Rattle.response.specs.Asking.{Asked}
 use Rattle.response.specs.Asking.{asked_at}
 use Rattle.response.specs.Levels.{is_of_level}
-use Rattle.response.specs.Owed.{owe_at_most, owes_at_most, pay_answers, pays_answer}
+use Rattle.response.specs.Owed.{owes_at_most, pay_answers, pays_answer}
 use Rattle.response.specs.Responding as responding
 use Rattle.response.specs.Responding.{OpenLine, acknowledged_by_one, acknowledges, asks_each, at_each, leaves, over_edges, pay_for_level, ring_fits, takes_only}
 use Rattle.response.specs.Weights.{pays_for, price_of}
 use Rattle.response.specs.Weights.{Weights as SpecWeights}
+use Rattle.settled_threads.specs.Tested as tested
+use Rattle.settled_threads.specs.Tested.{is_input, others_owe, tended_by_one, tends}
 use Rattle.responses.proofs.Lists.{all-so, both-true}
 use Rattle.responses.proofs.Points.{asks-so, asks-there, edges-weaker, leads-so}
 use Rattle.responses.proofs.Priced.{bound-is, price-same, signal_by}
@@ -28,22 +30,26 @@ use Rattle.responses.specs.Checks as seen
 use Rattle.responses.specs.Edges.{keeps_on, pays_on, pays_wholly}
 use Rattle.responses.specs.Found.{number_at, open_line, price_in, weights_of}
 use Rattle.responses.specs.Lines.{AreBells}
+use Rattle.responses.specs.Owing.{input_at}
 use Rattle.responses.specs.Seen.{points_pass, view_passes}
+use Rattle.responses.specs.Settling as settling
+use Rattle.responses.specs.Settling.{settlement_of}
 use Rattle.responses.specs.declared.asks.AskTest.TheVariants.{TakesOnly, Leaves}
 use Rattle.responses.specs.declared.lines.Bell.{Bell}
+use Rattle.responses.specs.declared.settled.Settled.{Settled}
 use Rattle.responses.specs.declared.weights.AcknowledgedLine.{AcknowledgedLine}
 use Rattle.responses.specs.declared.weights.Weights.{Weights}
 
-or-so : (a b c : Bool) → (b ≡ true → c ≡ true) → (a || b) ≡ true → (a || c) ≡ true
+pub or-so : (a b c : Bool) → (b ≡ true → c ≡ true) → (a || b) ≡ true → (a || c) ≡ true
 or-so true b c so is = refl
 or-so false b c so is = so is
 
-and-so : (a b c : Bool) → (b ≡ true → c ≡ true) → (a && b) ≡ true → (a && c) ≡ true
+pub and-so : (a b c : Bool) → (b ≡ true → c ≡ true) → (a && b) ≡ true → (a && c) ≡ true
 and-so true b c so is = so is
 and-so false b c so is = is
 
 module _ (image : Image) (priority : ℕ) (programs : List ProgramView) (are : AreProgramViews image 0 image.threads programs) where
-  high-same : (t : Numbered) (p : ProgramView) → IsProgramView image t p → seen.is_high priority p ≡ is_of_level priority t
+  pub high-same : (t : Numbered) (p : ProgramView) → IsProgramView image t p → seen.is_high priority p ≡ is_of_level priority t
   high-same t p view = ap (λ (h : ThreadHeader). nat_le priority h.priority) view.header
 
   -- what is so of what is seen of each thread of the level is so of it
@@ -87,13 +93,19 @@ module _ (image : Image) (priority : ℕ) (programs : List ProgramView) (are : A
   pub answers-so : (w : Weights) → seen.pay_all w priority programs ≡ true → pay_answers image priority (weights_of w) ≡ true
   answers-so w all = part-so pays_answer w (λ budget here next asked is. (and_parts (pays_for (weights_of w) budget here next asked) _ is).1) all
 
-  pub owes-so : (w : Weights) (owed : List ℕ) → seen.owe_all priority w owed programs ≡ true
-      → owe_at_most image priority (weights_of w) (number_at owed) ≡ true
-  owes-so w owed all =
-      all-from image (λ p. points_pass (λ point. seen.owes_so priority w owed p (point + 1)) 0 p.points.items) (λ t. by-parts t t.thread.header t.number)
+  -- of threads that are not settled
+  pub owes-so : (w : Weights) (s : Settled) (owed : List ℕ) → seen.owe_all priority w s owed programs ≡ true
+      → others_owe image priority (weights_of w) (settlement_of s).settling (number_at owed) ≡ true
+  owes-so w s owed all =
+      all-from image
+      (λ p. is_some (input_at s.inputs.items p.number) || points_pass (λ point. seen.owes_so priority w owed p (point + 1)) 0 p.points.items)
+      (λ t. is_some (input_at s.inputs.items t.number) || by-parts t t.thread.header t.number)
       (λ t p view is.
-      ap (λ (h : ThreadHeader). by-parts t h t.number) (sym view.header) ∙ ap (λ n. by-parts t p.header n) (sym view.number)
-      ∙ asks-there image t p view (λ point. seen.owes_so priority w owed p (point + 1)) is) 0 image.threads programs are all
+      ap (λ n. is_some (input_at s.inputs.items n) || by-parts t t.thread.header n) (sym view.number)
+      ∙ or-so (is_some (input_at s.inputs.items p.number)) (points_pass (λ point. seen.owes_so priority w owed p (point + 1)) 0 p.points.items)
+      (by-parts t t.thread.header p.number)
+      (λ passes. ap (λ (h : ThreadHeader). by-parts t h p.number) (sym view.header)
+      ∙ asks-there image t p view (λ point. seen.owes_so priority w owed p (point + 1)) passes) is) 0 image.threads programs are all
     where
       by-parts : Numbered → ThreadHeader → ℕ → Bool
       by-parts t h n =
@@ -101,17 +113,6 @@ module _ (image : Image) (priority : ℕ) (programs : List ProgramView) (are : A
           (λ point state. owes_at_most (weights_of w) (nat_le priority h.priority)
           (if nat_le priority h.priority then h.budget + (weights_of w).still n (point + 1) else 0)
           (number_at owed n) (asked_at image t.thread point state))
-
-  rest-so : (queue : ℕ) → seen.rest_at priority programs queue ≡ true → responding.rests_at image priority queue ≡ true
-  rest-so queue any =
-      any-from image (λ p. seen.is_high priority p && seen.asks_so (TakesOnly queue) p) (λ t. is_of_level priority t && asks_each image t (takes_only queue))
-      (λ t p view is.
-      and-so (is_of_level priority t) (seen.asks_so (TakesOnly queue) p) (asks_each image t (takes_only queue))
-      (asks-so image t p view (takes_only queue))
-      (ap (λ b. b && seen.asks_so (TakesOnly queue) p) (sym (high-same t p view)) ∙ is)) 0 image.threads programs are any
-
-  pub rests-so : (taken : List ℕ) → list_all (seen.rest_at priority programs) taken ≡ true → list_all (responding.rests_at image priority) taken ≡ true
-  rests-so taken all = all-so (seen.rest_at priority programs) (responding.rests_at image priority) rest-so taken all
 
   left-so : (t : Numbered) (p : ProgramView) → IsProgramView image t p → (queue : ℕ) → seen.left_to p.tcb queue programs ≡ true
       → list_all (λ u. asks_each image u (leaves queue (tcb_of image u == tcb_of image t))) (numbered_threads image) ≡ true
@@ -136,6 +137,19 @@ module _ (image : Image) (priority : ℕ) (programs : List ProgramView) (are : A
       (left-so t p view bell.notification four.0)
       (leads-so image t p view (keeps_on line) four.1))))
 
+  tended-by : (s : Settled) (line : AcknowledgedLine) (bell : Bell) (t : Numbered) (p : ProgramView) → IsProgramView image t p →
+      settling.tended_by s programs line bell p ≡ true → tends image (settlement_of s).settling (open_line line) t (signal_by bell) ≡ true
+  tended-by s line bell t p view is =
+      let one = and_parts (is_input bell.notification (input_at s.inputs.items p.number)) _ is in
+      let two = and_parts (not (bell.badge == 0)) _ one.1 in
+      let three = and_parts (seen.left_to p.tcb bell.notification programs) (seen.leads_so (keeps_on line) p) two.1 in
+      both-true (is_input bell.notification (input_at s.inputs.items t.number)) _
+      (ap (λ n. is_input bell.notification (input_at s.inputs.items n)) (sym view.number) ∙ one.0)
+      (both-true (not (bell.badge == 0)) _ two.0
+      (both-true (list_all (λ u. asks_each image u (leaves bell.notification (tcb_of image u == tcb_of image t))) (numbered_threads image)) _
+      (left-so t p view bell.notification three.0)
+      (leads-so image t p view (keeps_on line) three.1)))
+
   module _ (fits : whole_image.fits image ≡ true) (well : IsWellFormed image) (bells : List (Option Bell)) (are_bells : AreBells image bells) where
     line-so : (line : AcknowledgedLine) → seen.is_acknowledged priority programs bells line ≡ true
         → responding.is_acknowledged image priority (open_line line) ≡ true
@@ -156,6 +170,26 @@ module _ (image : Image) (priority : ℕ) (programs : List ProgramView) (are : A
     lines-so lines all =
         list_all-map (responding.is_acknowledged image priority) open_line lines
         ∙ all-so (seen.is_acknowledged priority programs bells) (λ l. responding.is_acknowledged image priority (open_line l)) line-so lines all
+
+    tended-line : (s : Settled) (line : AcknowledgedLine) → settling.is_tended s programs bells line ≡ true
+        → tested.is_tended image (settlement_of s).settling (open_line line) ≡ true
+    tended-line s line is = by-bell (slice_get bells line.line) refl is
+      where
+        by-bell : (found : Option (Option Bell)) → slice_get bells line.line ≡ found
+            → settling.tended_for s programs line (option_map_or (λ (o : Option Bell). o) found None) ≡ true
+            → tested.is_tended image (settlement_of s).settling (open_line line) ≡ true
+        by-bell (Some (Some bell)) at any =
+            ap (tended_by_one image (settlement_of s).settling (open_line line)) (bound-is image fits well bells are_bells line.line (Some bell) at)
+            ∙ any-from image (settling.tended_by s programs line bell) (λ t. tends image (settlement_of s).settling (open_line line) t (signal_by bell))
+            (tended-by s line bell) 0 image.threads programs are any
+        by-bell (Some None) at clash = absurd (let no : false ≡ true = clash in cc)
+        by-bell None at clash = absurd (let no : false ≡ true = clash in cc)
+
+    pub tended-so : (s : Settled) (lines : List AcknowledgedLine) → list_all (settling.is_tended s programs bells) lines ≡ true
+        → list_all (tested.is_tended image (settlement_of s).settling) (map open_line lines) ≡ true
+    tended-so s lines all =
+        list_all-map (tested.is_tended image (settlement_of s).settling) open_line lines
+        ∙ all-so (settling.is_tended s programs bells) (λ l. tested.is_tended image (settlement_of s).settling (open_line l)) (tended-line s) lines all
 
   -- rings from below
   pub rings-so : (is_taken : ℕ → Bool) (w : Weights) (rest most : ℕ) → seen.fit_rings priority is_taken (price_in w.prices.items) rest most programs ≡ true

@@ -1,9 +1,9 @@
 -- What the code tests is the test of the laws on responses.
 use Rattle.std.proofs.Common.{ℕ, ◌≡◌, ◌∙◌, ◌+◌, ◌*◌, ◌/◌, ◌^◌, ◌<◌, ◌≤◌, ◌==◌, ◌||◌, Bool, true, if◌then◌else◌, Option, List, [], map}
-use Rattle.std.proofs.Common.{refl, sym, ap, subst}
+use Rattle.std.proofs.Common.{refl, sym, ap, subst, arith}
 use Rattle.std.specs.Prelude.{nat_le, nat_lt}
 use Rattle.std.specs.List.{list_all, list_any, range_with_len}
-use Rattle.std.proofs.lemmas.Bool.{and_parts}
+use Rattle.std.proofs.lemmas.Bool.{and_parts, eqb-true}
 use Rattle.model.specs.Acceptance.Accepted.{IsAccepted, IsWellFormed}
 use Rattle.model.specs.Images.Described.{Numbered, described, numbered_threads}
 use Rattle.model.specs.Images.Image.{Image, Thread, whole_image}
@@ -11,16 +11,20 @@ use Rattle.headline.specs.starts.Laws.{ThreadsAreAsListed}
 use Rattle.program_rules.specs.Views.{AreProgramViews}
 use Rattle.program_rules.specs.declared.views.ProgramView.{ProgramView}
 use Rattle.response.specs.Left.{irq_lines, left, line_price, total}
-use Rattle.response.specs.Laws.{MessageResponsesDeal, MessageResponsesHold, RestedMessageResponsesDeal, RestedMessageResponsesHold}
 use Rattle.response.specs.Levels.{is_of_level}
-use Rattle.response.specs.Owed.{passes_messages, passes_messages_rested, rest_with, rings_fit_with}
+use Rattle.response.specs.Owed.{rest_with, rings_fit_with}
 use Rattle.response.specs.Rates.{costs_within}
 use Rattle.response.specs.Rates.{Rate as SpecRate}
-use Rattle.response.specs.Responding.{Response, asks_each, have_rates, ring_fits}
+use Rattle.response.specs.Responding.{DealsOnceRested, DealsWithin, OpenLine, Response, asks_each, have_rates, is_acknowledged, ring_fits}
 use Rattle.response.specs.Weights.{price_of}
+use Rattle.response.proofs.Laws.{all-at, any-found}
+use Rattle.settled_threads.specs.Laws.{AloneResponsesDeal, RestedAloneResponsesDeal, RestedSettledResponsesDeal, RestedSettledResponsesHold}
+use Rattle.settled_threads.specs.Laws.{SettledResponsesDeal, SettledResponsesHold, TestedThreadsRest}
+use Rattle.settled_threads.specs.Tested.{Settlement, passes_settled, passes_settled_rested}
 use Rattle.responses.proofs.Lists.{both-true}
-use Rattle.responses.proofs.Paid.{answers-so, lines-so, owes-so, pays-so, rests-so, rings-so}
+use Rattle.responses.proofs.Paid.{answers-so, lines-so, owes-so, pays-so, rings-so, tended-so}
 use Rattle.responses.proofs.Priced.{costs-same, lines-same, priced-so, rated-so}
+use Rattle.responses.proofs.SettledSeen.{inputs-so, settled-so}
 use Rattle.responses.proofs.Starts.{left-is}
 use Rattle.responses.proofs.Threads.{total-from}
 use Rattle.responses.proofs.Totals.{any-map, total-map}
@@ -29,9 +33,12 @@ use Rattle.responses.specs.Checks as seen
 use Rattle.responses.specs.Checks.{is_high, is_open_among, is_taken_among, price_of_line}
 use Rattle.responses.specs.Found.{listed_price, number_at, open_line, price_in, rate_of, response_of, weights_of}
 use Rattle.responses.specs.Lines.{AreBells}
+use Rattle.responses.specs.Settling as settling
+use Rattle.responses.specs.Settling.{settlement_of}
 use Rattle.responses.specs.declared.bounds.Bound.{Bound}
 use Rattle.responses.specs.declared.bounds.Rate.{Rate}
 use Rattle.responses.specs.declared.lines.Bell.{Bell}
+use Rattle.responses.specs.declared.settled.Settled.{Settled}
 use Rattle.responses.specs.declared.weights.AcknowledgedLine.{AcknowledgedLine}
 use Rattle.responses.specs.declared.weights.Weights.{Weights}
 use Rattle.thread_spaces.specs.Given.{IsListed}
@@ -73,72 +80,91 @@ module _ (image : Image) (fits : whole_image.fits image ≡ true) (well : IsWell
 
 -- ---- the whole
 
-module _ (image : Image) (priority : ℕ) (rates : List Rate) (r : Response) (owed_most : ℕ → ℕ) where
-  pub rested-so : IsPaid image priority r owed_most → rings_fit_with image priority r owed_most ≡ true
+module _ (image : Image) (priority : ℕ) (rates : List Rate) (r : Response) (s : Settlement) (owed_most : ℕ → ℕ) where
+  pub rested-so : IsPaid image priority r s owed_most → rings_fit_with image priority r owed_most ≡ true
       → have_rates image r.weights (map rate_of rates) ≡ true → nat_le (rest_with image r owed_most) r.most ≡ true
       → nat_le (r.most + costs_within (map rate_of rates) (line_price r.weights (described image)) r.steps) r.steps ≡ true
-      → passes_messages_rested image priority (map rate_of rates) r owed_most ≡ true
-  unfolding passes_messages_rested
+      → passes_settled_rested image priority (map rate_of rates) r s owed_most ≡ true
+  unfolding passes_settled_rested
   rested-so paid rings rated rest costs =
-      both-true _ _ paid.priced (both-true _ _ paid.pays (both-true _ _ paid.answers (both-true _ _ paid.owes (both-true _ _ paid.taken
-      (both-true _ _ paid.acknowledged (both-true _ _ rings (both-true _ _ rated (both-true _ _ rest costs))))))))
+      both-true _ _ paid.priced (both-true _ _ paid.pays (both-true _ _ paid.answers (both-true _ _ paid.settled (both-true _ _ paid.owes
+      (both-true _ _ paid.taken (both-true _ _ paid.tended (both-true _ _ rings (both-true _ _ rated (both-true _ _ rest costs)))))))))
 
-  pub starts-so : passes_messages_rested image priority (map rate_of rates) r owed_most ≡ true
+  pub starts-so : passes_settled_rested image priority (map rate_of rates) r s owed_most ≡ true
       → nat_le (left image priority r.weights (described image) []) r.most ≡ true
-      → passes_messages image priority (map rate_of rates) r owed_most ≡ true
-  unfolding passes_messages
+      → passes_settled image priority (map rate_of rates) r s owed_most ≡ true
+  unfolding passes_settled
   starts-so rested start = both-true _ _ rested start
 
 -- ---- what is printed
 
-module _ (image : Image) (priority : ℕ) (rates : List SpecRate) (b : Bound) (hold : MessageResponsesHold) (hold_later : RestedMessageResponsesHold)
-    (deal : MessageResponsesDeal) (deal_later : RestedMessageResponsesDeal) where
-  pub bound-is-so : IsTested image priority rates b.weights b.taken.items b.lines.items b.owed.items b.most_at_first b.steps b.most_at_rest b.later
-      → (bytes : List ℕ) → IsAccepted bytes image → IsBound bytes priority rates b
+-- a line that is listed is among those that the test opens
+opened : (lines : List AcknowledgedLine) (number : ℕ) → is_open_among lines number ≡ true → list_any (λ l. l.line == number) (map open_line lines) ≡ true
+opened lines number there = any-map (λ l. l.line == number) open_line lines ∙ there
+
+module _ (image : Image) (priority : ℕ) (rates : List SpecRate) (b : Bound) (hold : SettledResponsesHold) (hold_later : RestedSettledResponsesHold)
+    (deal : SettledResponsesDeal) (deal_later : RestedSettledResponsesDeal) (deal_alone : AloneResponsesDeal) (deal_alone_later : RestedAloneResponsesDeal)
+    (rest : TestedThreadsRest) where
+  pub bound-is-so : IsTested image priority rates b.weights b.settled b.taken.items b.lines.items b.tended.items b.owed.items b.most_at_first b.steps
+      b.most_at_rest b.later → (bytes : List ℕ) → IsAccepted bytes image → IsBound bytes priority rates b
   bound-is-so tested bytes accepted =
-      let first : Response = response_of b.weights b.taken.items b.lines.items b.most_at_first b.steps in
-      let rested : Response = response_of b.weights b.taken.items b.lines.items b.most_at_rest b.later in
+      let first : Response = response_of b.weights b.taken.items b.tended.items b.most_at_first b.steps in
+      let rested : Response = response_of b.weights b.taken.items b.tended.items b.most_at_rest b.later in
+      let s : Settlement = settlement_of b.settled in
       let owed : ℕ → ℕ = number_at b.owed.items in
       record {
-        steps = hold bytes image priority rates first owed accepted tested.first;
-        later = hold_later bytes image priority rates rested owed accepted tested.rested;
-        lines = λ number few there. (
-          deal bytes image priority rates first owed number accepted tested.first few (any-map (λ l. l.line == number) open_line b.lines.items ∙ there),
-          deal_later bytes image priority rates rested owed number accepted tested.rested few
-              (any-map (λ l. l.line == number) open_line b.lines.items ∙ there),
+        steps = hold bytes image priority rates first s owed accepted tested.first;
+        later = hold_later bytes image priority rates rested s owed accepted tested.rested;
+        lines = λ number few there.
+            let found = any-found (λ (l : OpenLine). l.line == number) (map open_line b.lines.items) (opened b.lines.items number there) in
+            let l = found.0 in
+            let same : l.line ≡ number = eqb-true l.line number found.2 in
+            let fits : l.line < 64 = omega (arith, same, few) in
+            let known = all-at (is_acknowledged image priority) (map open_line b.lines.items) l found.1 tested.acknowledged in (
+              subst (DealsWithin bytes priority rates b.steps) same
+                  (deal_alone bytes image priority rates first s owed l accepted tested.first fits known),
+              subst (DealsOnceRested bytes priority rates b.later) same
+                  (deal_alone_later bytes image priority rates rested s owed l accepted tested.rested fits known),
+            );
+        tended = λ number few there. (
+          deal bytes image priority rates first s owed number accepted tested.first few (opened b.tended.items number there),
+          deal_later bytes image priority rates rested s owed number accepted tested.rested few (opened b.tended.items number there),
         );
+        inputs = λ thread object input. rest bytes image priority rates rested s owed thread object accepted tested.rested input;
       }
 
 -- ---- the test, by what the code finds
 
 module _ (image : Image) (fits : whole_image.fits image ≡ true) (well : IsWellFormed image) (programs : List ProgramView)
     (are : AreProgramViews image 0 image.threads programs) (bells : List (Option Bell)) (are_bells : AreBells image bells) (priority : ℕ)
-    (w : Weights) (taken : List ℕ) (lines : List AcknowledgedLine) (owed : List ℕ) where
-  paid-so : (most steps : ℕ) → seen.are_paid priority w taken lines owed programs bells ≡ true
-      → IsPaid image priority (response_of w taken lines most steps) (number_at owed)
+    (w : Weights) (s : Settled) (taken : List ℕ) (lines : List AcknowledgedLine) (owed : List ℕ) where
+  paid-so : (most steps : ℕ) → settling.are_paid priority w s taken lines owed programs bells ≡ true
+      → IsPaid image priority (response_of w taken lines most steps) (settlement_of s) (number_at owed)
   paid-so most steps holds =
       let one = and_parts (list_all (seen.is_priced w.prices.items) w.prices.items) _ holds in
       let two = and_parts (seen.pay_all w priority programs) _ one.1 in
-      let three = and_parts (seen.owe_all priority w owed programs) _ two.1 in
-      let four = and_parts (list_all (seen.rest_at priority programs) taken) (list_all (seen.is_acknowledged priority programs bells) lines) three.1 in
+      let three = and_parts (settling.are_settled priority s programs) _ two.1 in
+      let four = and_parts (seen.owe_all priority w s owed programs) _ three.1 in
+      let five = and_parts (list_all (settling.is_input_there s programs) taken) (list_all (settling.is_tended s programs bells) lines) four.1 in
       record {
         priced = priced-so w one.0;
         pays = pays-so image priority programs are w two.0;
         answers = answers-so image priority programs are w two.0;
-        owes = owes-so image priority programs are w owed three.0;
-        taken = rests-so image priority programs are taken four.0;
-        acknowledged = lines-so image priority programs are fits well bells are_bells lines four.1;
+        settled = settled-so image priority programs are s three.0;
+        owes = owes-so image priority programs are w s owed four.0;
+        taken = inputs-so image priority programs are s taken five.0;
+        tended = tended-so image priority programs are fits well bells are_bells s lines five.1;
       }
 
   rings_fit_by : ℕ → ℕ → Bool
   rings_fit_by most n =
       list_all (λ t. is_of_level priority t || asks_each image t (ring_fits (is_taken_among taken) (price_of (weights_of w)) n most)) (numbered_threads image)
 
-  pub tested-so : (rates : List Rate) (most steps rest costs : ℕ) → seen.are_paid priority w taken lines owed programs bells ≡ true
+  pub tested-so : (rates : List Rate) (most steps rest costs : ℕ) → settling.are_paid priority w s taken lines owed programs bells ≡ true
       → rest ≡ rest_with image (response_of w taken lines 0 0) (number_at owed)
       → costs ≡ total (λ r. (r.burst + steps / r.period) * price_of_line w.prices.items bells r.line) rates
       → seen.sums_fit priority rates w taken programs bells rest costs most steps ≡ true
-      → passes_messages_rested image priority (map rate_of rates) (response_of w taken lines most steps) (number_at owed) ≡ true
+      → passes_settled_rested image priority (map rate_of rates) (response_of w taken lines most steps) (settlement_of s) (number_at owed) ≡ true
   unfolding rings_fit_by
   tested-so rates most steps rest costs paid rest_same costs_same fit =
       let r : Response = response_of w taken lines most steps in
@@ -146,7 +172,7 @@ module _ (image : Image) (fits : whole_image.fits image ≡ true) (well : IsWell
       let two = and_parts (list_all (seen.is_rated w.prices.items bells rates) (range_with_len 0 64)) _ one.1 in
       let three = and_parts (list_all (λ (r : Rate). nat_lt r.line 64) rates) _ two.1 in
       let four = and_parts (nat_le rest most) (nat_le (most + costs) steps) three.1 in
-      rested-so image priority rates r (number_at owed) (paid-so most steps paid)
+      rested-so image priority rates r (settlement_of s) (number_at owed) (paid-so most steps paid)
       (subst (λ n. rings_fit_by most n ≡ true) rest_same (rings-so image priority programs are (is_taken_among taken) w rest most one.0))
       (rated-so image fits well bells are_bells w rates two.0)
       (subst (λ n. nat_le n most ≡ true) rest_same four.0)
@@ -156,26 +182,27 @@ module _ (image : Image) (fits : whole_image.fits image ≡ true) (well : IsWell
       → ((i : Image) (t : Thread) → IsWellFormed i → IsListed i t → (t.header.base + 4 * t.header.words ≤ 2 ^ 31) × (t.header.entry < t.header.words))
       → (rates : List Rate) (most steps left_there : ℕ)
       → left_there ≡ total (λ p. if is_high priority p then p.header.budget + (weights_of w).still p.number p.header.entry else 0) programs
-      → passes_messages_rested image priority (map rate_of rates) (response_of w taken lines most steps) (number_at owed) ≡ true
+      → passes_settled_rested image priority (map rate_of rates) (response_of w taken lines most steps) (settlement_of s) (number_at owed) ≡ true
       → nat_le left_there most ≡ true
-      → passes_messages image priority (map rate_of rates) (response_of w taken lines most steps) (number_at owed) ≡ true
+      → passes_settled image priority (map rate_of rates) (response_of w taken lines most steps) (settlement_of s) (number_at owed) ≡ true
   first-so listed_so places rates most steps left_there same rested less =
-      starts-so image priority rates (response_of w taken lines most steps) (number_at owed) rested
+      starts-so image priority rates (response_of w taken lines most steps) (settlement_of s) (number_at owed) rested
       (subst (λ n. nat_le n most ≡ true)
       (same ∙ sym (left-is image fits well listed_so (λ t listed. places image t well listed) priority (weights_of w) programs are)) less)
 
   -- over slices of what is seen
   pub tested-of : (value : Image) → image ≡ value → (ps : List ProgramView) → ps ≡ programs → (bs : List (Option Bell)) → bs ≡ bells
-      → (rates : List Rate) (most steps rest costs : ℕ) → seen.are_paid priority w taken lines owed ps bs ≡ true
+      → (rates : List Rate) (most steps rest costs : ℕ) → settling.are_paid priority w s taken lines owed ps bs ≡ true
       → rest ≡ rest_with value (response_of w taken lines 0 0) (number_at owed)
       → costs ≡ total (λ r. (r.burst + steps / r.period) * price_of_line w.prices.items bs r.line) rates
       → seen.sums_fit priority rates w taken ps bs rest costs most steps ≡ true
-      → passes_messages_rested value priority (map rate_of rates) (response_of w taken lines most steps) (number_at owed) ≡ true
+      → passes_settled_rested value priority (map rate_of rates) (response_of w taken lines most steps) (settlement_of s) (number_at owed) ≡ true
   tested-of value here ps same_ps bs same_bs rates most steps rest costs paid rest_same costs_same fit =
-      subst (λ (i : Image). passes_messages_rested i priority (map rate_of rates) (response_of w taken lines most steps) (number_at owed) ≡ true) here
+      subst (λ (i : Image). passes_settled_rested i priority (map rate_of rates) (response_of w taken lines most steps) (settlement_of s) (number_at owed)
+      ≡ true) here
       (tested-so rates most steps rest costs
-      (sym (ap (λ (l : List ProgramView). seen.are_paid priority w taken lines owed l bs) same_ps
-      ∙ ap (λ (l : List (Option Bell)). seen.are_paid priority w taken lines owed programs l) same_bs) ∙ paid)
+      (sym (ap (λ (l : List ProgramView). settling.are_paid priority w s taken lines owed l bs) same_ps
+      ∙ ap (λ (l : List (Option Bell)). settling.are_paid priority w s taken lines owed programs l) same_bs) ∙ paid)
       (rest_same ∙ ap (λ (i : Image). rest_with i (response_of w taken lines 0 0) (number_at owed)) (sym here))
       (costs_same ∙ ap (λ (l : List (Option Bell)). total (λ r. (r.burst + steps / r.period) * price_of_line w.prices.items l r.line) rates) same_bs)
       (sym (ap (λ (l : List ProgramView). seen.sums_fit priority rates w taken l bs rest costs most steps) same_ps
@@ -185,13 +212,26 @@ module _ (image : Image) (fits : whole_image.fits image ≡ true) (well : IsWell
       → ((i : Image) (t : Thread) → IsWellFormed i → IsListed i t → (t.header.base + 4 * t.header.words ≤ 2 ^ 31) × (t.header.entry < t.header.words))
       → (rates : List Rate) (most steps left_there : ℕ)
       → left_there ≡ total (λ p. if is_high priority p then p.header.budget + (weights_of w).still p.number p.header.entry else 0) ps
-      → passes_messages_rested value priority (map rate_of rates) (response_of w taken lines most steps) (number_at owed) ≡ true
+      → passes_settled_rested value priority (map rate_of rates) (response_of w taken lines most steps) (settlement_of s) (number_at owed) ≡ true
       → nat_le left_there most ≡ true
-      → passes_messages value priority (map rate_of rates) (response_of w taken lines most steps) (number_at owed) ≡ true
+      → passes_settled value priority (map rate_of rates) (response_of w taken lines most steps) (settlement_of s) (number_at owed) ≡ true
   first-of value here ps same_ps listed_so places rates most steps left_there same rested less =
-      subst (λ (i : Image). passes_messages i priority (map rate_of rates) (response_of w taken lines most steps) (number_at owed) ≡ true) here
+      subst (λ (i : Image). passes_settled i priority (map rate_of rates) (response_of w taken lines most steps) (settlement_of s) (number_at owed) ≡ true) here
       (first-so listed_so places rates most steps left_there
       (same ∙ ap (λ (l : List ProgramView). total (λ p. if is_high priority p then p.header.budget + (weights_of w).still p.number p.header.entry else 0) l)
       same_ps)
-      (subst (λ (i : Image). passes_messages_rested i priority (map rate_of rates) (response_of w taken lines most steps) (number_at owed) ≡ true)
+      (subst (λ (i : Image). passes_settled_rested i priority (map rate_of rates) (response_of w taken lines most steps) (settlement_of s) (number_at owed)
+      ≡ true)
       (sym here) rested) less)
+
+-- ---- lines of threads that wait for no message
+
+pub acknowledged-of : (image : Image) (fits : whole_image.fits image ≡ true) (well : IsWellFormed image) (programs : List ProgramView)
+    (are : AreProgramViews image 0 image.threads programs) (bells : List (Option Bell)) (are_bells : AreBells image bells) (priority : ℕ)
+    (lines : List AcknowledgedLine) (value : Image) → image ≡ value → (ps : List ProgramView) → ps ≡ programs → (bs : List (Option Bell)) → bs ≡ bells
+    → list_all (seen.is_acknowledged priority ps bs) lines ≡ true → list_all (is_acknowledged value priority) (map open_line lines) ≡ true
+acknowledged-of image fits well programs are bells are_bells priority lines value here ps same_ps bs same_bs all =
+    subst (λ (i : Image). list_all (is_acknowledged i priority) (map open_line lines) ≡ true) here
+    (lines-so image priority programs are fits well bells are_bells lines
+    (sym (ap (λ (l : List ProgramView). list_all (seen.is_acknowledged priority l bs) lines) same_ps
+    ∙ ap (λ (l : List (Option Bell)). list_all (seen.is_acknowledged priority programs l) lines) same_bs) ∙ all))

@@ -1,5 +1,5 @@
 -- The test of a response, by what is seen of the threads of an image and of its lines.
-use Rattle.std.specs.Prelude.{ℕ, ◌==◌, ◌+◌, ◌&&◌, ◌||◌, Bool, false, nat_le, not, nat_lt, map, List, Option, Some, None, if◌then◌else◌}
+use Rattle.std.specs.Prelude.{ℕ, ◌==◌, ◌+◌, ◌&&◌, ◌||◌, Bool, false, is_some, nat_le, not, nat_lt, map, List, Option, Some, None, if◌then◌else◌}
 use Rattle.std.specs.List.{list_all, list_any, range_with_len}
 use Rattle.model.specs.Shared.Lists.{times_in}
 use Rattle.program_rules.specs.declared.views.ProgramView.{ProgramView}
@@ -10,11 +10,13 @@ use Rattle.response.specs.Responding.{ring_fits}
 use Rattle.responses.specs.Edges.{keeps_on, pays_on}
 use Rattle.responses.specs.Found.{number_at, price_in, weights_of}
 use Rattle.responses.specs.Lines.{bell_at}
+use Rattle.responses.specs.Owing.{input_at}
 use Rattle.responses.specs.Seen.{all_edges_pass, points_pass, test_of, view_passes}
 use Rattle.responses.specs.declared.asks.AskTest.{AskTest}
 use Rattle.responses.specs.declared.asks.AskTest.TheVariants.{TakesOnly, Leaves}
 use Rattle.responses.specs.declared.bounds.Rate.{Rate}
 use Rattle.responses.specs.declared.lines.Bell.{Bell}
+use Rattle.responses.specs.declared.settled.Settled.{Settled}
 use Rattle.responses.specs.declared.weights.AcknowledgedLine.{AcknowledgedLine}
 use Rattle.responses.specs.declared.weights.Price.{Price}
 use Rattle.responses.specs.declared.weights.Weights.{Weights}
@@ -30,9 +32,6 @@ leads_so test p = all_edges_pass test p.header.base 0 p.points.items
 
 abbrev pub is_priced : List Price → Price → Bool
 is_priced prices p = (times_in (map (λ q. q.object) prices) p.object == 1) && (price_in prices p.object == p.price)
-
-abbrev pub rest_at : ℕ → List ProgramView → ℕ → Bool
-rest_at priority programs queue = list_any (λ p. is_high priority p && asks_so (TakesOnly queue) p) programs
 
 -- ---- what lines cost
 
@@ -90,8 +89,10 @@ going_to priority w p next = if is_high priority p then p.header.budget + (weigh
 abbrev pub owes_so : ℕ → Weights → List ℕ → ProgramView → ℕ → Asked → Bool
 owes_so priority w owed p next asked = owes_at_most (weights_of w) (is_high priority p) (going_to priority w p next) (number_at owed p.number) asked
 
-abbrev pub owe_all : ℕ → Weights → List ℕ → List ProgramView → Bool
-owe_all priority w owed programs = list_all (λ p. points_pass (λ point. owes_so priority w owed p (point + 1)) 0 p.points.items) programs
+-- so of each thread that is not settled
+abbrev pub owe_all : ℕ → Weights → Settled → List ℕ → List ProgramView → Bool
+owe_all priority w s owed programs =
+    list_all (λ p. is_some (input_at s.inputs.items p.number) || points_pass (λ point. owes_so priority w owed p (point + 1)) 0 p.points.items) programs
 
 -- ---- what may be left at rest
 
@@ -103,14 +104,6 @@ rest_seen w taken lines owed programs bells =
     + total (λ p. number_at owed p.number) programs
 
 -- ---- the whole
-
--- weights pay for what is asked, and what is said to rest does
-abbrev pub are_paid : ℕ → Weights → List ℕ → List AcknowledgedLine → List ℕ → List ProgramView → List (Option Bell) → Bool
-are_paid priority w taken lines owed programs bells =
-    list_all (is_priced w.prices.items) w.prices.items
-    && (pay_all w priority programs
-    && (owe_all priority w owed programs
-    && (list_all (rest_at priority programs) taken && list_all (is_acknowledged priority programs bells) lines)))
 
 -- rates of lines that there are, and what comes from below, at what may be left at rest and what interrupts cost
 abbrev pub sums_fit : ℕ → List Rate → Weights → List ℕ → List ProgramView → List (Option Bell) → ℕ → ℕ → ℕ → ℕ → Bool

@@ -1,6 +1,9 @@
+pub mod Doors
 pub mod Seen
 pub mod Found
 pub mod Lines
+pub mod Owing
 pub mod Edges
 pub mod Checks
+pub mod Settling
 pub mod Bounds

@@ -8,10 +8,12 @@ use Rattle.program_rules.specs.declared.views.SeenPoint.{SeenPoint}
 use Rattle.response.specs.Asking.{Asked, asked_known}
 use Rattle.response.specs.Asking as is
 use Rattle.response.specs.Responding.{leaves, takes_only}
+use Rattle.settled_threads.specs.Tested.{asks_settled, receives_so}
 use Rattle.responses.specs.declared.asks.Ask.{Ask}
 use Rattle.responses.specs.declared.asks.Ask.TheVariants.{Takes, Polls, Rings, Acknowledges, Accepts, Looks, SendsTo, Calls, Tries, Answers, Nothing}
 use Rattle.responses.specs.declared.asks.AskTest.{AskTest}
-use Rattle.responses.specs.declared.asks.AskTest.TheVariants.{TakesOnly, Leaves}
+use Rattle.responses.specs.declared.asks.AskTest.TheVariants.{TakesOnly, Leaves, IsSettled, KeepsDoors}
+use Rattle.responses.specs.Doors.{are_before, are_no_door, may_call, may_send}
 
 abbrev pub asked : Ask → Asked
 asked (Takes o) = is.Takes o
@@ -29,6 +31,8 @@ asked Nothing = is.Asks_nothing
 abbrev pub test_of : AskTest → Asked → Bool
 test_of (TakesOnly queue) = takes_only queue
 test_of (Leaves queue takes) = leaves queue takes
+test_of (IsSettled doors rank input) = asks_settled (may_send doors.now rank) (may_call doors.now rank) input
+test_of (KeepsDoors doors rank input) = receives_so (are_before doors.now input rank) (are_no_door doors.now)
 
 abbrev pub asked_seen : SeenPoint → Asked
 asked_seen v = asked_known v.call v.capability

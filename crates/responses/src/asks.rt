@@ -6,6 +6,7 @@ ghost use Rattle.response.specs.Asking.{asked_known, asked_by, asked_to_receive,
 ghost use Rattle.response.specs.Responding.{leaves, takes_only};
 ghost use Rattle.responses.specs.Seen.{asked, test_of, view_passes};
 
+use crate::doors::{Door, asks_settled, receives_so};
 use model::{Cap, ReceiveCall, SendCall, SystemCall};
 use program_rules::{PointView, SeenPoint};
 
@@ -94,11 +95,26 @@ pub(crate) fn ask_of(point: &SeenPoint) -> Ask
 
 /// A test of what a point asks.
 #[derive(Clone, Copy)]
-pub(crate) enum AskTest {
+pub(crate) enum AskTest<'t> {
     /// It waits for no message, and takes from this notification if from any.
     TakesOnly(u32),
     /// It does not poll this notification, and takes from it only if that is said.
-    Leaves { queue: u32, takes: bool },
+    Leaves {
+        queue: u32,
+        takes: bool,
+    },
+    /// It is what a settled thread of this rank and input may ask.
+    IsSettled {
+        doors: &'t [Door],
+        rank: u32,
+        input: u32,
+    },
+    /// It receives from doors that answer as a thread of this rank and input may, and polls none.
+    KeepsDoors {
+        doors: &'t [Door],
+        rank: u32,
+        input: Option<u32>,
+    },
 }
 
 /// Whether it waits for no message, and takes from this notification if from any.
@@ -139,7 +155,7 @@ fn leaves(queue: u32, takes: bool, ask: Ask) -> bool
     }
 }
 
-impl AskTest {
+impl AskTest<'_> {
     /// Whether what a point asks passes.
     fn passes(&self, ask: Ask) -> bool
         ensures { result ≡ test_of self.now (asked ask) }
@@ -147,6 +163,8 @@ impl AskTest {
         match *self {
             AskTest::TakesOnly(queue) => takes_only(queue, ask),
             AskTest::Leaves { queue, takes } => leaves(queue, takes, ask),
+            AskTest::IsSettled { doors, rank, input } => asks_settled(doors, rank, input, ask),
+            AskTest::KeepsDoors { doors, rank, input } => receives_so(doors, rank, input, ask),
         }
     }
 

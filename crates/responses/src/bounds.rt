@@ -7,15 +7,17 @@ ghost use Rattle.responses.specs.Found.{rate_of};
 
 use crate::checks::Claim;
 use crate::finding::{
-    PlacedPoint, acknowledged_lines, owed_for, rung_below, steps_for, taken_alone, unrated,
-    weights_for,
+    PlacedPoint, acknowledged_lines, inputs_of, owed_for, rung_below, steps_for, tended_lines,
+    unrated, weights_for,
 };
 use crate::lines::LINES;
+use crate::settled::Settled;
+use crate::settling::settled_for;
 use crate::sums::left_at_start;
 use crate::systems::{Levels, levels_of};
 use crate::weights::{AcknowledgedLine, Weights};
 use model::Refusal;
-use response::tested_message_responses_hold;
+use settled_threads::tested_settled_responses_hold;
 use std::alloc::{AllocError, Global};
 use verify::Accepted;
 
@@ -39,10 +41,14 @@ pub struct Bound {
     pub most_at_first: u64,
     pub most_at_rest: u64,
     pub weights: Weights,
-    /// The notifications, by their offsets, at which a thread of the level rests that takes from nothing else: no word is left there then.
+    /// The threads of the level that are settled: at rest each waits at its input.
+    pub settled: Settled,
+    /// Their inputs, the notifications and endpoints by their offsets: nothing is left there then.
     pub taken: Vec<u32>,
-    /// The lines that are dealt with, each within as many steps.
+    /// The lines that are dealt with, each within as many steps, by threads that neither send, call nor receive.
     pub lines: Vec<AcknowledgedLine>,
+    /// All lines that are dealt with, each within as many steps: those too whose threads send and call on the way.
+    pub tended: Vec<AcknowledgedLine>,
     /// What each thread by its number may wait with at rest, to send or for an answer.
     pub owed: Vec<u64>,
 }
@@ -71,8 +77,10 @@ pub enum Response {
 #[derive(Drop)]
 struct Level {
     weights: Weights,
+    settled: Settled,
     taken: Vec<u32>,
     lines: Vec<AcknowledgedLine>,
+    tended: Vec<AcknowledgedLine>,
     owed: Vec<u64>,
 }
 
@@ -91,16 +99,20 @@ impl Level {
         ensures priority { result.priority ≡ priority }
         ensures rates { result.rates.now ≡ rates.now }
         ensures weights { result.weights.now ≡ self.now.weights }
+        ensures settled { result.settled.now ≡ self.now.settled }
         ensures taken { result.taken.now ≡ self.now.taken.items }
         ensures lines { result.lines.now ≡ self.now.lines.items }
+        ensures tended { result.tended.now ≡ self.now.tended.items }
         ensures owed { result.owed.now ≡ self.now.owed.items }
     {
         Claim {
             priority,
             rates,
             weights: &self.weights,
+            settled: &self.settled,
             taken: self.taken.as_slice(),
             lines: self.lines.as_slice(),
+            tended: self.tended.as_slice(),
             owed: self.owed.as_slice(),
         }
     }
@@ -114,13 +126,18 @@ impl Levels<'_, '_> {
             Ok(weights) => weights,
             Err(place) => return Ok(Err(Why::Rises(place))),
         };
-        let taken = taken_alone(alloc, programs, priority, weights.prices.as_slice())?;
-        let lines = acknowledged_lines(alloc, programs, self.bells.as_slice(), priority)?;
-        let owed = owed_for(alloc, &weights, priority, programs)?;
+        let settled = settled_for(alloc, programs, priority)?;
+        let taken = inputs_of(alloc, &settled, weights.prices.as_slice())?;
+        let bells = self.bells.as_slice();
+        let lines = acknowledged_lines(alloc, programs, bells, priority)?;
+        let tended = tended_lines(alloc, programs, bells, &settled)?;
+        let owed = owed_for(alloc, &weights, priority, &settled, programs)?;
         Ok(Ok(Level {
             weights,
+            settled,
             taken,
             lines,
+            tended,
             owed,
         }))
     }
@@ -142,8 +159,11 @@ impl Levels<'_, '_> {
 
     /// Whether numbers pass the test, from the start and later.
     fn pass(&self, claim: &Claim<'_>, numbers: &Numbers) -> bool
-        ensures { result ≡ true → IsTested self.now claim.now.priority (map rate_of claim.now.rates.now) claim.now.weights.now claim.now.taken.now claim.now.lines.now claim.now.owed.now numbers.now.most_at_first numbers.now.steps numbers.now.most_at_rest numbers.now.later }
+        ensures { result ≡ true → IsTested self.now claim.now.priority (map rate_of claim.now.rates.now) claim.now.weights.now claim.now.settled.now claim.now.taken.now claim.now.lines.now claim.now.tended.now claim.now.owed.now numbers.now.most_at_first numbers.now.steps numbers.now.most_at_rest numbers.now.later }
     {
+        if !self.acknowledges(claim) {
+            return false;
+        }
         if !self.holds_rested(claim, numbers.most_at_rest, numbers.later) {
             return false;
         }
@@ -152,7 +172,7 @@ impl Levels<'_, '_> {
 
     /// The numbers of a level that was found, which pass the test; or why there are none.
     fn tested(&self, level: &Level, priority: u32, rates: &[Rate]) -> Result<Numbers, Option<Why>>
-        ensures { IfOk result (λ n. IsTested self.now priority (map rate_of rates.now) level.now.weights level.now.taken.items level.now.lines.items level.now.owed.items n.most_at_first n.steps n.most_at_rest n.later) }
+        ensures { IfOk result (λ n. IsTested self.now priority (map rate_of rates.now) level.now.weights level.now.settled level.now.taken.items level.now.lines.items level.now.tended.items level.now.owed.items n.most_at_first n.steps n.most_at_rest n.later) }
     {
         if rates
             .iter()
@@ -177,7 +197,7 @@ impl Levels<'_, '_> {
     fn answer(&self, level: Level, priority: u32, rates: &[Rate]) -> Response
         ensures { IsResponseOf self.now priority (map rate_of rates.now) result }
     {
-        tested_message_responses_hold();
+        tested_settled_responses_hold();
         match self.tested(&level, priority, rates) {
             Ok(numbers) => Response::Bound(Bound {
                 steps: numbers.steps,
@@ -185,8 +205,10 @@ impl Levels<'_, '_> {
                 most_at_first: numbers.most_at_first,
                 most_at_rest: numbers.most_at_rest,
                 weights: level.weights,
+                settled: level.settled,
                 taken: level.taken,
                 lines: level.lines,
+                tended: level.tended,
                 owed: level.owed,
             }),
             Err(Some(why)) => Response::NoBound(why),

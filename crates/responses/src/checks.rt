@@ -4,14 +4,17 @@ ghost use Rattle.std.specs.Prelude.{◌≡◌, ◌+◌, ◌==◌, ◌||◌, IfSo
 ghost use Rattle.std.specs.List.{list_all, list_any, range_with_len};
 ghost use Rattle.model.specs.Shared.Lists.{times_in};
 ghost use Rattle.response.specs.Responding.{ring_fits};
-ghost use Rattle.responses.specs.Checks.{acknowledged_by, are_paid, fit_rings, going_to, is_acknowledged, is_high, is_priced, is_rated, is_taken_among, left_to, owe_all, owes_so, pay_all, rest_at, rest_seen, sums_fit};
+ghost use Rattle.responses.specs.Checks.{acknowledged_by, fit_rings, going_to, is_acknowledged, is_high, is_priced, is_rated, is_taken_among, left_to, owe_all, owes_so, pay_all, rest_seen, sums_fit};
 ghost use Rattle.responses.specs.Found.{number_at, price_in};
 ghost use Rattle.responses.specs.Seen.{asked, points_pass, view_passes};
+ghost use Rattle.responses.specs.Settling.{are_paid, is_tended, tended_by};
 
 use crate::asks::{Ask, AskTest, ask_of};
 use crate::bounds::Rate;
+use crate::doors::is_input;
 use crate::edge_checks::EdgeTest;
 use crate::lines::{Bell, LINES, bell_at};
+use crate::settled::Settled;
 use crate::sums::{is_high, lines_at_rest, owed_at_rest, price_of_line, words_at_rest};
 use crate::weights::{AcknowledgedLine, Price, Weights, all_fit, fits, is_one_of, number_at};
 use program_rules::{PointView, ProgramView};
@@ -22,9 +25,13 @@ pub(crate) struct Claim<'c> {
     pub(crate) priority: u32,
     pub(crate) rates: &'c [Rate],
     pub(crate) weights: &'c Weights,
-    /// The notifications at which a thread rests that takes from nothing else.
+    pub(crate) settled: &'c Settled,
+    /// Inputs of settled threads.
     pub(crate) taken: &'c [u32],
+    /// Lines that threads acknowledge that wait for no message.
     pub(crate) lines: &'c [AcknowledgedLine],
+    /// Lines that settled threads acknowledge.
+    pub(crate) tended: &'c [AcknowledgedLine],
     /// What each thread by its number may wait with at rest, to send or for an answer.
     pub(crate) owed: &'c [u64],
 }
@@ -70,24 +77,6 @@ pub(crate) fn pay_all(weights: &Weights, priority: u32, programs: &[ProgramView]
                 test.holds_for(program.header.base, program.points.as_slice())
             }
     })
-}
-
-/// Whether some thread of the level takes from this notification alone, if from any.
-pub(crate) fn rest_at(priority: u32, programs: &[ProgramView], queue: u32) -> bool
-    ensures { result ≡ rest_at priority programs.now queue }
-{
-    programs.iter().any(|program| {
-        is_high(priority, program) && AskTest::TakesOnly(queue).holds_for(program.points.as_slice())
-    })
-}
-
-/// Whether that is so of each of these.
-pub(crate) fn rest_all(priority: u32, programs: &[ProgramView], taken: &[u32]) -> bool
-    ensures { result ≡ list_all (rest_at priority programs.now) taken.now }
-{
-    taken
-        .iter()
-        .all(|queue| rest_at(priority, programs, *queue))
 }
 
 /// Whether no thread but that of this control block takes from a notification, and none polls it.
@@ -162,6 +151,65 @@ pub(crate) fn acknowledge_all(
         .all(|line| is_acknowledged(priority, programs, bells, line))
 }
 
+/// Whether a settled thread acknowledges a line that signals this, its input.
+pub(crate) fn tends(
+    settled: &Settled,
+    programs: &[ProgramView],
+    line: &AcknowledgedLine,
+    program: &ProgramView,
+    bell: &Bell,
+) -> bool
+    ensures { result ≡ tended_by settled.now programs.now line.now bell.now program.now }
+{
+    is_input(bell.notification, settled.input(program.number))
+        && bell.badge != 0
+        && is_left_to(program.tcb, bell.notification, programs)
+        && EdgeTest::KeepsMarks(line).holds_for(program.header.base, program.points.as_slice())
+}
+
+/// Whether some settled thread acknowledges a line that signals this.
+fn some_tends(
+    settled: &Settled,
+    programs: &[ProgramView],
+    line: &AcknowledgedLine,
+    bell: &Bell,
+) -> bool
+    ensures { result ≡ list_any (tended_by settled.now programs.now line.now bell.now) programs.now }
+{
+    programs
+        .iter()
+        .any(|program| tends(settled, programs, line, program, bell))
+}
+
+/// Whether some settled thread acknowledges a line.
+fn is_tended(
+    settled: &Settled,
+    programs: &[ProgramView],
+    bells: &[Option<Bell>],
+    line: &AcknowledgedLine,
+) -> bool
+    ensures { result ≡ is_tended settled.now programs.now bells.now line.now }
+{
+    match bell_at(bells, line.line) {
+        Some(bell) => some_tends(settled, programs, line, &bell),
+        None => false,
+    }
+}
+
+/// Whether each of these lines is acknowledged so.
+pub(crate) fn tend_all(
+    settled: &Settled,
+    programs: &[ProgramView],
+    bells: &[Option<Bell>],
+    lines: &[AcknowledgedLine],
+) -> bool
+    ensures { result ≡ list_all (is_tended settled.now programs.now bells.now) lines.now }
+{
+    lines
+        .iter()
+        .all(|line| is_tended(settled, programs, bells, line))
+}
+
 /// Where rings from below are looked at: what may be left at rest, and at most.
 #[derive(Clone, Copy)]
 pub(crate) struct Rings<'c> {
@@ -221,11 +269,12 @@ impl Rings<'_> {
     }
 }
 
-/// Where messages are looked at with which threads wait: what each may wait with at most.
+/// Where messages are looked at with which threads wait: what each may wait with at most that is not settled.
 #[derive(Clone, Copy)]
 pub(crate) struct Waits<'c> {
     pub(crate) weights: &'c Weights,
     pub(crate) priority: u32,
+    pub(crate) settled: &'c Settled,
     pub(crate) owed: &'c [u64],
 }
 
@@ -293,11 +342,12 @@ impl Waits<'_> {
         true
     }
 
-    /// Whether all points of all programs are.
+    /// Whether all points of all programs are whose threads are not settled.
     pub(crate) fn hold(&self, programs: &[ProgramView]) -> bool
-        ensures { result ≡ owe_all self.now.priority self.now.weights.now self.now.owed.now programs.now }
+        ensures { result ≡ owe_all self.now.priority self.now.weights.now self.now.settled.now self.now.owed.now programs.now }
     {
-        programs.iter().all(|program| self.holds_for(program))
+        programs.iter().all(|program| self.settled.input(program.number).is_some()
+            || self.holds_for(program))
     }
 }
 
@@ -351,10 +401,10 @@ pub(crate) fn are_of_lines(rates: &[Rate]) -> bool
 impl Claim<'_> {
     /// What may be left where no thread of the level is ready.
     pub(crate) fn rest(&self, programs: &[ProgramView], bells: &[Option<Bell>]) -> Option<u64>
-        ensures { IfSome result (λ rest. rest ≡ rest_seen self.now.weights.now self.now.taken.now self.now.lines.now self.now.owed.now programs.now bells.now) }
+        ensures { IfSome result (λ rest. rest ≡ rest_seen self.now.weights.now self.now.taken.now self.now.tended.now self.now.owed.now programs.now bells.now) }
     {
         let words = words_at_rest(self.weights.prices.as_slice(), self.taken)?;
-        let lines = lines_at_rest(self.weights, bells, self.lines)?;
+        let lines = lines_at_rest(self.weights, bells, self.tended)?;
         let owed = owed_at_rest(self.owed, programs)?;
         let both = words.checked_add(lines)?;
         let rest = both.checked_add(owed)?;
@@ -363,18 +413,20 @@ impl Claim<'_> {
 
     /// Whether the weights pay for what threads of the level ask, and what is said to rest does.
     pub(crate) fn is_paid(&self, programs: &[ProgramView], bells: &[Option<Bell>]) -> bool
-        ensures { result ≡ are_paid self.now.priority self.now.weights.now self.now.taken.now self.now.lines.now self.now.owed.now programs.now bells.now }
+        ensures { result ≡ are_paid self.now.priority self.now.weights.now self.now.settled.now self.now.taken.now self.now.tended.now self.now.owed.now programs.now bells.now }
     {
         let waits = Waits {
             weights: self.weights,
             priority: self.priority,
+            settled: self.settled,
             owed: self.owed,
         };
         are_priced(self.weights)
             && pay_all(self.weights, self.priority, programs)
+            && self.settled.are_settled(self.priority, programs)
             && waits.hold(programs)
-            && rest_all(self.priority, programs, self.taken)
-            && acknowledge_all(self.priority, programs, bells, self.lines)
+            && self.settled.are_inputs(programs, self.taken)
+            && tend_all(self.settled, programs, bells, self.tended)
     }
 
     /// Whether no more than `most` is left at rest with what comes from below, and all that is done within so many steps with what interrupts cost.

@@ -1,13 +1,15 @@
-//! Tests of the ways from point to point: whether weights pay for them, and whether marks of a line are kept on them.
+//! Tests of the ways from point to point: whether weights pay for them, and whether marks of a line, or of what is owed, are kept on them.
 
 ghost use Rattle.std.specs.Prelude.{◌≡◌, ◌-◌, ◌/◌, option_to_list};
 ghost use Rattle.std.specs.List.{list_all};
 ghost use Rattle.response.specs.Resting.{marks_for};
+ghost use Rattle.settled_threads.specs.Answering.{owing_for};
 ghost use Rattle.responses.specs.Found.{open_line, weights_of};
 ghost use Rattle.responses.specs.Seen.{all_edges_pass, asked, edges_pass};
 ghost use Rattle.responses.specs.Edges.{edge_test_of};
 
 use crate::asks::{Ask, ask_of};
+use crate::settled::Settled;
 use crate::weights::{AcknowledgedLine, Weights};
 use program_rules::PointView;
 
@@ -22,6 +24,11 @@ pub(crate) enum EdgeTest<'w> {
     },
     /// The marks of a line are kept.
     KeepsMarks(&'w AcknowledgedLine),
+    /// The marks of what a thread owes are kept.
+    KeepsOwing {
+        settled: &'w Settled,
+        thread: u32,
+    },
 }
 
 impl AcknowledgedLine {
@@ -55,6 +62,25 @@ fn keeps_marks(line: u32, here: bool, next: bool, ask: Ask) -> bool
     }
 }
 
+/// Whether marks of what is owed are kept on a way from a point that asks this: an answer is owed from a message on until there is one.
+fn keeps_owing(here: bool, next: bool, ask: Ask) -> bool
+    ensures { result ≡ owing_for here next (asked ask) }
+{
+    match ask {
+        Ask::Accepts { replies, .. } => (replies || !here) && next,
+        Ask::Takes(_) => !here,
+        Ask::Looks(_) => !here,
+        Ask::Answers => true,
+        Ask::Polls(_) => !here || next,
+        Ask::Rings(_) => !here || next,
+        Ask::Acknowledges(_) => !here || next,
+        Ask::SendsTo(_) => !here || next,
+        Ask::Calls(_) => !here || next,
+        Ask::Tries(_) => !here || next,
+        Ask::Nothing => !here || next,
+    }
+}
+
 /// The point at an address.
 pub(crate) fn point_at(base: u32, address: u32) -> usize
     ensures { result ≡ (address - base) / 4 }
@@ -80,6 +106,13 @@ impl EdgeTest<'_> {
             ),
             EdgeTest::KeepsMarks(line) => {
                 keeps_marks(line.line, line.is_marked(here), line.is_marked(next), ask)
+            }
+            EdgeTest::KeepsOwing { settled, thread } => {
+                keeps_owing(
+                    settled.owes_at(thread, here),
+                    settled.owes_at(thread, next),
+                    ask,
+                )
             }
         }
     }

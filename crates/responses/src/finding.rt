@@ -3,10 +3,12 @@
 
 use crate::asks::{Ask, AskTest, ask_of};
 use crate::bounds::Rate;
-use crate::checks::{Claim, acknowledges, is_rated, rest_at};
+use crate::checks::{Claim, acknowledges, is_rated, tends};
+use crate::doors::is_input;
 use crate::edge_checks::point_at;
 use crate::lines::{Bell, LINES};
 use crate::marks::marks_of;
+use crate::settled::Settled;
 use crate::sums::{costs_within, is_high};
 use crate::weights::{AcknowledgedLine, Price, Weights, is_one_of};
 use program_rules::{PointView, ProgramView, SeenPoint};
@@ -34,7 +36,7 @@ pub(crate) struct Rising {
 }
 
 /// The notification or endpoint from which a point takes.
-fn taken_by(view: &PointView) -> Option<u32> {
+pub(crate) fn taken_by(view: &PointView) -> Option<u32> {
     let PointView::Seen(seen) = view else {
         return None;
     };
@@ -260,30 +262,39 @@ fn owed_by(weights: &Weights, priority: u32, program: &ProgramView) -> u64 {
     most
 }
 
-/// What each thread may wait with at rest, to send or for an answer. Memory may be refused.
+/// What each thread may wait with at rest, to send or for an answer: one that is settled with nothing. Memory may be refused.
 pub(crate) fn owed_for(
     alloc: Global,
     weights: &Weights,
     priority: u32,
+    settled: &Settled,
     programs: &[ProgramView],
 ) -> Result<Vec<u64>, AllocError> {
     let mut owed = Vec::new(alloc);
     for program in programs {
-        owed.push(owed_by(weights, priority, program))?;
+        let most = if settled.input(program.number).is_some() {
+            0
+        } else {
+            owed_by(weights, priority, program)
+        };
+        owed.push(most)?;
     }
     Ok(owed)
 }
 
-/// The notifications at which a thread of the level rests that takes from nothing else. Memory may be refused.
-pub(crate) fn taken_alone(
+/// The inputs of settled threads, each once. Memory may be refused.
+pub(crate) fn inputs_of(
     alloc: Global,
-    programs: &[ProgramView],
-    priority: u32,
+    settled: &Settled,
     prices: &[Price],
 ) -> Result<Vec<u32>, AllocError> {
     let mut taken = Vec::new(alloc);
     for price in prices {
-        if rest_at(priority, programs, price.object) {
+        if settled
+            .inputs
+            .iter()
+            .any(|input| is_input(price.object, *input))
+        {
             taken.push(price.object)?;
         }
     }
@@ -322,6 +333,44 @@ pub(crate) fn acknowledged_lines(
     for line in 0..LINES {
         if let Some(Some(bell)) = bells.get(line as usize) {
             if let Some(found) = line_of(alloc, programs, priority, line, bell)? {
+                lines.push(found)?;
+            }
+        }
+    }
+    Ok(lines)
+}
+
+/// The line with its marks, if a settled thread acknowledges it. Memory may be refused.
+fn tended_line(
+    alloc: Global,
+    programs: &[ProgramView],
+    settled: &Settled,
+    line: u32,
+    bell: &Bell,
+) -> Result<Option<AcknowledgedLine>, AllocError> {
+    for program in programs {
+        if is_input(bell.notification, settled.input(program.number)) {
+            let marks = marks_of(alloc, line, program)?;
+            let found = AcknowledgedLine { line, marks };
+            if tends(settled, programs, &found, program, bell) {
+                return Ok(Some(found));
+            }
+        }
+    }
+    Ok(None)
+}
+
+/// The lines that settled threads acknowledge. Memory may be refused.
+pub(crate) fn tended_lines(
+    alloc: Global,
+    programs: &[ProgramView],
+    bells: &[Option<Bell>],
+    settled: &Settled,
+) -> Result<Vec<AcknowledgedLine>, AllocError> {
+    let mut lines = Vec::new(alloc);
+    for line in 0..LINES {
+        if let Some(Some(bell)) = bells.get(line as usize) {
+            if let Some(found) = tended_line(alloc, programs, settled, line, bell)? {
                 lines.push(found)?;
             }
         }

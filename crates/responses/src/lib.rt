@@ -5,13 +5,17 @@
 mod asks;
 mod bounds;
 mod checks;
+mod doors;
 mod edge_checks;
 mod finding;
 mod lines;
 mod marks;
 #[cfg(test)]
 mod numbers;
+mod owing;
 mod rows;
+mod settled;
+mod settling;
 mod shares;
 mod stretches;
 mod sums;
@@ -19,9 +23,11 @@ mod systems;
 mod weights;
 
 pub use bounds::{Bound, Rate, Response, Why, respond};
+pub use doors::Door;
 pub use finding::PlacedPoint;
 pub use lines::Bell;
 pub use rows::{LineParts, Parts, Responses, Row, responded};
+pub use settled::Settled;
 pub use shares::{Reason, Share};
 pub use stretches::{Cause, How, Stretch};
 pub use systems::{Levels, levels_of};

@@ -1,7 +1,7 @@
 //! Numbers of systems whose longest runs are known: by a search of all lists of events that keep the rates, or by the budgets that were worked
 //! by hand.
 
-use crate::bounds::{Rate, Response, respond};
+use crate::bounds::{Bound, Rate, Response, respond};
 use crate::rows::responded;
 use asm::assemble;
 use image::write;
@@ -182,39 +182,202 @@ object door u endpoint
 irq one 1 b1 1
 cap sa 1 b1 2 0
 cap sa 2 one 0 0
-cap sa 3 door 9 7
+cap sa 3 door 9 1
 table va 0 pa
 map va 0x1000 ca 4
 cap sb 1 door 2 0
 table vb 0 pb
 map vb 0x1000 cb 4
-thread ta sa 28 va 100 8 0 start 0x1000
+thread ta sa 28 va 100 9 0 start 0x1000
 measure 3
 start: addi x10 x0 1
 addi x17 x0 5
-ecall
-addi x10 x0 3
-addi x11 x0 0
-addi x17 x0 1
 ecall
 addi x17 x0 1
 lui x11 18
 addi x10 x0 2
 ecall
+addi x17 x0 1
+addi x11 x0 1
+addi x10 x0 3
+ecall
 jal x0 start
 end
-thread tb sb 28 vb 100 5 0 start 0x1000
-measure 4
+thread tb sb 28 vb 110 16 0 start 0x1000
+measure 3
 start: addi x10 x0 1
-addi x11 x0 0
 addi x17 x0 5
 ecall
+measure 15
+serve: addi x9 x9 1
+addi x9 x9 1
+addi x9 x9 1
+addi x9 x9 1
+addi x9 x9 1
+addi x9 x9 1
+addi x9 x9 1
+addi x9 x9 1
+addi x9 x9 1
+addi x9 x9 1
+addi x9 x9 1
+addi x17 x0 2
+addi x11 x0 1
+addi x10 x0 1
+ecall
+jal x0 serve
+end
+";
+
+/// A thread with a line calls another one, which never answers.
+const DEAF: &str = "memory 18 7
+untyped u 0x20000 17
+object ca u frame
+object va u root
+object pa u table
+object cb u frame
+object vb u root
+object pb u table
+object ta u tcb
+object tb u tcb
+object sa u cnode 4
+object sb u cnode 4
+object b1 u notification
+object door u endpoint
+irq one 1 b1 1
+cap sa 1 b1 2 0
+cap sa 2 one 0 0
+cap sa 3 door 9 1
+table va 0 pa
+map va 0x1000 ca 4
+cap sb 1 door 2 0
+table vb 0 pb
+map vb 0x1000 cb 4
+thread ta sa 28 va 100 9 0 start 0x1000
+measure 3
+start: addi x10 x0 1
+addi x17 x0 5
+ecall
+addi x17 x0 1
+lui x11 18
+addi x10 x0 2
+ecall
+addi x17 x0 1
+addi x11 x0 1
+addi x10 x0 3
+ecall
+jal x0 start
+end
+thread tb sb 28 vb 110 4 0 start 0x1000
+measure 3
+start: addi x10 x0 1
+addi x17 x0 5
+ecall
+jal x0 start
+end
+";
+
+/// Two drivers, each with a line, call a filter above them.
+const GATEWAY: &str = "memory 18 7
+untyped u 0x20000 17
+object filter_code u frame
+object filter_space u root
+object filter_table u table
+object drva_code u frame
+object drva_space u root
+object drva_table u table
+object drvb_code u frame
+object drvb_space u root
+object drvb_table u table
+object shared u frame
+object filter u tcb
+object drva u tcb
+object drvb u tcb
+object filter_slots u cnode 4
+object drva_slots u cnode 4
+object drvb_slots u cnode 4
+object door u endpoint
+object rxa u notification
+object rxb u notification
+irq linea 1 rxa 1
+irq lineb 2 rxb 1
+cap filter_slots 1 door 2 0
+cap drva_slots 1 rxa 2 0
+cap drva_slots 2 linea 0 0
+cap drva_slots 3 door 9 1
+cap drvb_slots 1 rxb 2 0
+cap drvb_slots 2 lineb 0 0
+cap drvb_slots 3 door 9 2
+table filter_space 0 filter_table
+map filter_space 0x1000 filter_code 4
+map filter_space 0x2000 shared 3
+table drva_space 0 drva_table
+map drva_space 0x1000 drva_code 4
+table drvb_space 0 drvb_table
+map drvb_space 0x1000 drvb_code 4
+thread filter filter_slots 28 filter_space 110 14 0 start 0x1000
 measure 4
-answer: addi x10 x0 1
-addi x11 x0 0
+start: lui x6 2
+addi x10 x0 1
+addi x17 x0 5
+ecall
+measure 13
+range x6 0x2000 0x2000
+serve: addi x7 x0 1
+andi x5 x12 0xff
+slli x5 x5 2
+add x5 x5 x6
+bne x10 x7 other
+sw x12 0(x5)
+andi x12 x12 1
+xori x12 x12 1
+jal x0 reply
+measure 5
+range x5 0x2000 0x23FC
+range x6 0x2000 0x2000
+other: lw x12 0(x5)
+measure 4
+range x6 0x2000 0x2000
+reply: addi x10 x0 1
+addi x11 x0 1
 addi x17 x0 2
 ecall
-jal x0 answer
+jal x0 serve
+end
+thread drva drva_slots 28 drva_space 100 8 0 start 0x1000
+measure 3
+start: addi x10 x0 1
+addi x17 x0 5
+ecall
+addi x8 x8 1
+addi x12 x8 0
+addi x10 x0 3
+addi x11 x0 1
+addi x17 x0 1
+ecall
+addi x17 x0 1
+addi x10 x0 2
+lui x11 18
+ecall
+jal x0 start
+end
+thread drvb drvb_slots 28 drvb_space 100 11 0 start 0x1000
+measure 3
+start: addi x10 x0 1
+addi x17 x0 5
+ecall
+addi x12 x0 1
+addi x10 x0 3
+addi x11 x0 1
+addi x17 x0 1
+ecall
+addi x10 x12 48
+addi x17 x0 9
+ecall
+addi x17 x0 1
+addi x10 x0 2
+lui x11 18
+ecall
+jal x0 start
 end
 ";
 
@@ -336,15 +499,15 @@ jal x0 wait
 end
 ";
 
-/// How soon the threads of a text of a priority and above rest once they have rested, where each of the lines 1 to `lines` comes once in so many
-/// steps; 0 where there is no bound.
-fn rests_within(
+/// What is found of the threads of a text of a priority and above, where each of the lines 1 to `lines` comes once in so many steps; nothing where there
+/// is no bound.
+fn bound_of(
     alloc: Global,
     text: &str,
     priority: u32,
     lines: u32,
     period: u64,
-) -> Result<u64, Fail> {
+) -> Result<Option<Bound>, Fail> {
     let image = assemble(alloc, text).ok().ok_or("the text is at fault")?;
     let bytes = write(alloc, &image)?;
     let accepted = verify(alloc, bytes.as_slice())
@@ -359,9 +522,42 @@ fn rests_within(
         })?;
     }
     match respond(alloc, &accepted, priority, rates.as_slice()) {
-        Ok(Response::Bound(bound)) => Ok(bound.later),
-        Ok(_) => Ok(0),
+        Ok(Response::Bound(bound)) => Ok(Some(bound)),
+        Ok(_) => Ok(None),
         Err(_) => Err("there is no memory".into()),
+    }
+}
+
+/// How soon they rest once they have rested; 0 where there is no bound.
+fn rests_within(
+    alloc: Global,
+    text: &str,
+    priority: u32,
+    lines: u32,
+    period: u64,
+) -> Result<u64, Fail> {
+    match bound_of(alloc, text, priority, lines, period)? {
+        Some(bound) => Ok(bound.later),
+        None => Ok(0),
+    }
+}
+
+/// Of how many threads it is said that they wait at their inputs then, and how many lines are dealt with.
+fn settled_and_tended(
+    alloc: Global,
+    text: &str,
+    priority: u32,
+    lines: u32,
+) -> Result<(usize, usize), Fail> {
+    match bound_of(alloc, text, priority, lines, 1000)? {
+        Some(bound) => {
+            let mut settled = 0usize;
+            for input in &bound.settled.inputs {
+                settled = settled.saturating_add(usize::from(input.is_some()));
+            }
+            Ok((settled, bound.tended.len()))
+        }
+        None => Ok((0, 0)),
     }
 }
 
@@ -410,6 +606,8 @@ fn shares_are_the_bound(rt: HostRuntime) -> Result<(), Fail> {
     assert!(rt; add_up(rt.alloc(), EQUAL)?);
     assert!(rt; add_up(rt.alloc(), CHAIN)?);
     assert!(rt; add_up(rt.alloc(), SERVER)?);
+    assert!(rt; add_up(rt.alloc(), DEAF)?);
+    assert!(rt; add_up(rt.alloc(), GATEWAY)?);
     assert!(rt; add_up(rt.alloc(), CONTROLLER)?);
     Ok(())
 }
@@ -432,11 +630,30 @@ fn a_ring_from_below_counts(rt: HostRuntime) -> Result<(), Fail> {
     Ok(())
 }
 
-// The server runs 5 from a message on. The client runs 8 after its Call, and 8 from its line on, with 13 that the Call sets going: 21. So at rest
-// 21 stand for a word, 21 for the line, 5 for a message, 13 for the client that waits with one: 60, and 21 come with one interrupt.
+// The server runs 16 from a message on, and rests whenever the level does, as the client does. The client runs 9 after its Call, and 9 from its line on,
+// with 25 that the Call sets going: so one interrupt costs 34, and nothing is left at rest.
 #[test]
 fn calls_are_paid_for(rt: HostRuntime) -> Result<(), Fail> {
-    assert_eq!(rt; rests_within(rt.alloc(), SERVER, 100, 1, 200)?, 81);
+    assert_eq!(rt; rests_within(rt.alloc(), SERVER, 100, 1, 200)?, 34);
+    assert_eq!(rt; settled_and_tended(rt.alloc(), SERVER, 100, 1)?, (2, 1));
+    Ok(())
+}
+
+// An interrupt of the first driver costs 8 and 8 with 14 of the filter, one of the second 11 and 11 with 14.
+#[test]
+fn drivers_rest_with_their_filter(rt: HostRuntime) -> Result<(), Fail> {
+    assert_eq!(rt; rests_within(rt.alloc(), GATEWAY, 110, 2, 400)?, 28);
+    assert_eq!(rt; rests_within(rt.alloc(), GATEWAY, 100, 2, 400)?, 66);
+    assert_eq!(rt; settled_and_tended(rt.alloc(), GATEWAY, 100, 2)?, (3, 2));
+    Ok(())
+}
+
+// The server runs 4 from a message on, and its client 9 after its Call, and 9 from its line on, with 13 that the Call sets going: 22. The client may wait
+// for its answer for ever, so its line is not dealt with: at rest 22 stand for a word, 22 for the line, 13 for the client; and 22 come with one interrupt.
+#[test]
+fn who_is_not_answered_is_not_settled(rt: HostRuntime) -> Result<(), Fail> {
+    assert_eq!(rt; rests_within(rt.alloc(), DEAF, 100, 1, 200)?, 79);
+    assert_eq!(rt; settled_and_tended(rt.alloc(), DEAF, 100, 1)?, (1, 0));
     Ok(())
 }
 

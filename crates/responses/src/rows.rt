@@ -68,7 +68,7 @@ impl Levels<'_, '_> {
         priority: u32,
     ) -> Result<Vec<LineParts>, AllocError> {
         let mut parts = Vec::new(alloc);
-        for open in &bound.lines {
+        for open in &bound.tended {
             if let Some(Some(bell)) = self.bells.get(open.line as usize) {
                 let programs = self.programs.as_slice();
                 let object = bell.notification;
@@ -129,8 +129,8 @@ fn rows_of(alloc: Global, levels: &Levels<'_, '_>, rates: &[Rate]) -> Result<Vec
     Ok(rows)
 }
 
-/// How soon the levels of an image come to rest at these rates. It takes time as its verification does, and for each priority as for a fraction of
-/// that.
+/// How soon the levels of an image come to rest at these rates. After its verification it goes over the points of all programs for each priority,
+/// round after round, until no weight rises and no further thread is found to be settled.
 ///
 /// # Errors
 ///

@@ -72,7 +72,7 @@ impl Bound {
             }
         }
         for line in 0..LINES {
-            if !is_open(self.lines.as_slice(), line) {
+            if !is_open(self.tended.as_slice(), line) {
                 let cost = price_of_line(&self.weights, levels.bells.as_slice(), line);
                 shares.put(Reason::Pending { line }, cost)?;
             }

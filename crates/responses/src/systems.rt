@@ -2,10 +2,14 @@
 
 ghost use Rattle.std.specs.Prelude.{◌≡◌, IfErr, IfOk, IfSome, map, true};
 ghost use Rattle.model.specs.declared.refusals.Refusal.TheVariants.{OutOfMemory};
-ghost use Rattle.response.specs.Owed.{passes_messages, passes_messages_rested, rest_with};
-ghost use Rattle.responses.specs.Found.{number_at, rate_of, response_of};
+ghost use Rattle.std.specs.List.{list_all};
+ghost use Rattle.response.specs.Owed.{rest_with};
+ghost use Rattle.response.specs.Responding.{is_acknowledged};
+ghost use Rattle.settled_threads.specs.Tested.{passes_settled, passes_settled_rested};
+ghost use Rattle.responses.specs.Found.{number_at, open_line, rate_of, response_of};
+ghost use Rattle.responses.specs.Settling.{settlement_of};
 
-use crate::checks::{Claim, Sums};
+use crate::checks::{Claim, Sums, acknowledge_all};
 use crate::lines::{Bell, bells_of};
 use crate::sums::{costs_within, left_at_start};
 use headline::starts::threads_are_as_listed;
@@ -72,14 +76,14 @@ pub fn levels_of<'i, 'a>(
 impl Levels<'_, '_> {
     /// What may be left where no thread of the level is ready.
     pub(crate) fn rest(&self, claim: &Claim<'_>) -> Option<u64>
-        ensures { IfSome result (λ rest. rest ≡ rest_with self.now (response_of claim.now.weights.now claim.now.taken.now claim.now.lines.now 0 0) (number_at claim.now.owed.now)) }
+        ensures { IfSome result (λ rest. rest ≡ rest_with self.now (response_of claim.now.weights.now claim.now.taken.now claim.now.tended.now 0 0) (number_at claim.now.owed.now)) }
     {
         claim.rest(self.programs.as_slice(), self.bells.as_slice())
     }
 
     /// Whether no more than so much may be left once the level has rested, and with that it runs for no more than so many steps on end.
     pub(crate) fn holds_rested(&self, claim: &Claim<'_>, most: u64, steps: u64) -> bool
-        ensures { result ≡ true → passes_messages_rested self.now claim.now.priority (map rate_of claim.now.rates.now) (response_of claim.now.weights.now claim.now.taken.now claim.now.lines.now most steps) (number_at claim.now.owed.now) ≡ true }
+        ensures { result ≡ true → passes_settled_rested self.now claim.now.priority (map rate_of claim.now.rates.now) (response_of claim.now.weights.now claim.now.taken.now claim.now.tended.now most steps) (settlement_of claim.now.settled.now) (number_at claim.now.owed.now) ≡ true }
     {
         let programs = self.programs.as_slice();
         let bells = self.bells.as_slice();
@@ -97,7 +101,7 @@ impl Levels<'_, '_> {
 
     /// Whether that is so from the start on.
     pub(crate) fn holds(&self, claim: &Claim<'_>, most: u64, steps: u64) -> bool
-        ensures { result ≡ true → passes_messages self.now claim.now.priority (map rate_of claim.now.rates.now) (response_of claim.now.weights.now claim.now.taken.now claim.now.lines.now most steps) (number_at claim.now.owed.now) ≡ true }
+        ensures { result ≡ true → passes_settled self.now claim.now.priority (map rate_of claim.now.rates.now) (response_of claim.now.weights.now claim.now.taken.now claim.now.tended.now most steps) (settlement_of claim.now.settled.now) (number_at claim.now.owed.now) ≡ true }
     {
         threads_are_as_listed();
         programs_have_their_places();
@@ -109,5 +113,18 @@ impl Levels<'_, '_> {
             return false;
         }
         left <= most
+    }
+
+    /// Whether threads of the level that wait for no message acknowledge lines as it is claimed.
+    pub(crate) fn acknowledges(&self, claim: &Claim<'_>) -> bool
+        ensures { result ≡ true → list_all (is_acknowledged self.now claim.now.priority) (map open_line claim.now.lines.now) ≡ true }
+    {
+        let _ = self.image;
+        acknowledge_all(
+            claim.priority,
+            self.programs.as_slice(),
+            self.bells.as_slice(),
+            claim.lines,
+        )
     }
 }

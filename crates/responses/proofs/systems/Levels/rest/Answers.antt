@@ -12,8 +12,8 @@ returns c =
     let i = c.self.invariant in
     let claim = c.args.claim.now in
     some-weaker c.rest.result
-    (λ n. n ≡ rest_seen claim.weights.now claim.taken.now claim.lines.now claim.owed.now c.as_slice.result.now c.as_slice-2.result.now)
-    (λ n. n ≡ rest_with c.args.self.now (response_of claim.weights.now claim.taken.now claim.lines.now 0 0) (number_at claim.owed.now))
+    (λ n. n ≡ rest_seen claim.weights.now claim.taken.now claim.tended.now claim.owed.now c.as_slice.result.now c.as_slice-2.result.now)
+    (λ n. n ≡ rest_with c.args.self.now (response_of claim.weights.now claim.taken.now claim.tended.now 0 0) (number_at claim.owed.now))
     (λ n is. is ∙ rest-seen c.self.inside.image.now i.1 i.0 c.self.inside.programs.items i.2 c.self.inside.bells.items i.3 claim.weights.now
-    claim.taken.now claim.lines.now claim.owed.now c.args.self.now c.self.view_is c.as_slice.result.now c.as_slice.ensures.value c.as_slice-2.result.now
+    claim.taken.now claim.tended.now claim.owed.now c.args.self.now c.self.view_is c.as_slice.result.now c.as_slice.ensures.value c.as_slice-2.result.now
     c.as_slice-2.ensures.value) c.rest.ensures
