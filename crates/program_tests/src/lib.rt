@@ -11,6 +11,8 @@ mod images;
 #[cfg(test)]
 mod listed;
 #[cfg(test)]
+mod response_numbers;
+#[cfg(test)]
 mod running;
 #[cfg(test)]
 mod verdicts;

@@ -10,8 +10,6 @@ mod edge_checks;
 mod finding;
 mod lines;
 mod marks;
-#[cfg(test)]
-mod numbers;
 mod owing;
 mod rows;
 mod settled;

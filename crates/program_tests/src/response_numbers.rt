@@ -1,10 +1,9 @@
 //! Numbers of systems whose longest runs are known: by a search of all lists of events that keep the rates, or by the budgets that were worked
 //! by hand.
 
-use crate::bounds::{Bound, Rate, Response, respond};
-use crate::rows::responded;
 use asm::assemble;
 use image::write;
+use responses::{Bound, Rate, Response, respond, responded};
 use std::alloc::Global;
 use std::process::Abort;
 use std::test::Fail;
