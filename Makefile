@@ -15,7 +15,7 @@ demo:
 # edits that must fail, the tests and the stored run. It fails where either does; the last line is the gate's.
 test:
 	@tools/needs.sh bash python3 rt
-	@tools/smoke.sh; smoke=$$?; rt ci && [ $$smoke = 0 ]
+	@tools/smoke.sh; smoke=$$?; RT_JOBS="$$(tools/checks/lanes.py)" rt ci && [ $$smoke = 0 ]
 
 # What compiles a program that is proved: clang, or Rattle's own compiler (BACKEND=rattle), which is done sooner, says
 # how much stack the program takes, and makes a slower one.
