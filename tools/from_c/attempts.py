@@ -178,16 +178,17 @@ def mended_at(it: Built, refused: list[Refusal], described: Description) -> Buil
     lines = stopped(it.program.lines, setting)
     turns = [refusal.line for refusal in refused if refusal.rule == "NoMeasure" and refusal.line >= 0]
     loads = sorted({refusal.line for refusal in refused if refusal.rule == "NotMapped" and refusal.line >= 0})
+    is_counted = False
     for _ in range(MOST_LOOPS if turns else 0):
         counted = with_found_turns(lines, turns, analysed(lines, setting), set(setting.registers))
         if counted is None:
             break
-        lines = stopped(counted.lines, setting)
+        lines, is_counted = stopped(counted.lines, setting), True
         turns, loads = [counted.moved(at) for at in turns], [counted.moved(at) for at in loads]
     checked = with_checks(lines, loads, setting, wanted is not None and wanted.is_checked) if loads else None
     if checked:
         return it.with_lines(stopped(checked.lines, setting), tuple(checked.notes))
-    return it.with_lines(lines) if len(lines) > len(it.program.lines) else None
+    return it.with_lines(lines) if is_counted else None
 
 
 def stopped(lines: list[Line], setting: Setting) -> list[Line]:

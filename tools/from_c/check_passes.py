@@ -216,6 +216,34 @@ def turns_are_found() -> None:
     assert all(turns_of(it, known) is None for it in loops(lines) if it.head == 3), "an inner loop writes the counter"
 
 
+# A loop that is entered where 3 is below 2, which never is; and one in which a byte is put, beside numbers of calls in its register.
+NEVER = """
+    top: addi x17 x0 5
+    ecall
+    addi x6 x0 3
+    addi x7 x0 2
+    bgeu x6 x7 -> top
+    turn: addi x8 x8 -1
+    bge x8 x0 -> turn
+    jal x0 -> top
+    """
+PUTS = LOOP.replace("addi x9 x9 1", "addi x17 x0 {}\n    addi x17 x0 {}\n    ecall")
+
+
+def loops_without_waits_are_counted() -> None:
+    """A loop that is never entered becomes a stop; one whose call puts a byte is counted, whatever else its register held, and one
+    whose call waits is not."""
+    lines = program(NEVER)
+    found = with_found_turns(lines, [5], analysed(lines, setting()), set())
+    made = shown_text(found.lines) if found else []
+    assert found and found.more == 0 and made[5] == f"jal x0 -> {STOP}" and made[:5] == shown_text(lines)[:5], made
+    assert found.lines[5].labels == lines[5].labels
+    for numbers, is_counted in (((5, 9), True), ((9, 5), False), ((9, 2), False)):
+        lines = program(PUTS.format(7, *numbers, -1, "bge x8 x0"))
+        found = with_found_turns(lines, [3], analysed(lines, setting()), set())
+        assert (found is not None) == is_counted, numbers
+
+
 def marks_become_counters() -> None:
     """An `AT_MOST` becomes a counter, set at each way into its loop; outside of loops without a wait it is a mistake."""
     lines, notes = with_turns(program(LOOP.format(7, -1, "bne x8 x20").replace("turn:", "turn: lui x0 0x9\n   ")), set())
@@ -346,6 +374,7 @@ def main() -> None:
         indices_are_checked,
         checks_stand_behind_tests,
         turns_are_found,
+        loops_without_waits_are_counted,
         marks_become_counters,
         variables_are_read,
         walks_are_bounded,

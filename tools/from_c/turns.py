@@ -13,8 +13,8 @@ from dataclasses import dataclass
 from analysis import Analysis, State
 from faults import Fault, Note
 from lines import STOP, Line, constant
-from loops import Loop, has_wait, loops
-from ranges import ANSWERS, ANY, BRANCHES, MOST, operation, shown
+from loops import WAITS, Loop, has_wait, loops
+from ranges import ANSWERS, ANY, BRANCHES, MOST, operation, plain, shown
 from rewriting import SCRATCH, free_registers, live_before
 
 # How many turns of a loop are run to find that there is no further one.
@@ -127,14 +127,33 @@ class Counted:
 
 def with_found_turns(lines: list[Line], at: list[int], known: Analysis, given: set[int]) -> Counted | None:
     """The program with a counter for a loop without a measure that has one of these lines, the smallest whose turns are
-    found; nothing where there is none."""
+    found, or with a stop in the place of such a loop that is never entered; nothing where there is none."""
     for loop in loops(lines):
-        if loop.body & set(at) and not has_wait(lines, loop) and not is_counted(loop, known):
+        if loop.body & set(at) and not may_wait(loop, known) and not is_counted(loop, known):
+            if known.states[loop.head] is None:
+                return Counted(stopped_at(loop.head, lines), loop.head, 0)
             turns, counter = turns_of(loop, known), unused_in(loop, lines, given)
             if turns is not None and counter is not None:
                 made = entered(*tested_at_head(loop, lines, counter), constant(counter, turns))
                 return Counted(made, loop.head, len(made) - len(lines))
     return None
+
+
+def may_wait(loop: Loop, known: Analysis) -> bool:
+    """Whether a loop has a call that may be one that waits, by what is known of its number."""
+    for line in loop.body:
+        state = known.states[line]
+        if known.operations[line].name == "ecall" and state is not None:
+            low, high = plain(state.registers[17])
+            if any(low <= number <= high for number in WAITS):
+                return True
+    return False
+
+
+def stopped_at(head: int, lines: list[Line]) -> list[Line]:
+    """The program that waits for ever where a line would be run."""
+    line = lines[head]
+    return [*lines[:head], Line(["jal", "x0"], line.place, STOP, line.labels, line.note), *lines[head + 1 :]]
 
 
 def tested_at_head(loop: Loop, lines: list[Line], counter: int) -> tuple[list[Line], int, frozenset[int]]:
