@@ -8,15 +8,17 @@ touch. What is found serves the passes of this folder, which make it visible to 
 from __future__ import annotations
 
 from bisect import bisect_left, bisect_right
-from collections.abc import Iterator
+from collections.abc import Iterable, Iterator
 from dataclasses import dataclass, field
+from functools import reduce
 from heapq import heappop, heappush
 
+from components import components
 from lines import Line
 from ranges import ANSWERS, ANY, BRANCHES, HALF, IMMEDIATE, LOADS, MOST, SILENT, STORES, Operation, Range, loaded, met, normal, operation, plain, result, shown, united
 
-# How often a point is visited before its ranges are widened, and how many rounds narrow them again.
-VISITS, ROUNDS = 3, 2
+# How often a point is visited before its ranges are widened, and how many rounds narrow them again at most.
+VISITS, ROUNDS = 3, 8
 # How many instructions are remembered by which a register was made of another.
 MOST_STEPS = 4
 # An address and a width: what is loaded and stored as one.
@@ -115,6 +117,17 @@ class State:
         if found and size_of(found) < size_of(self.registers[register]):
             self.narrow(register, found)
 
+    def kept_to(self, entered: State, registers: set[int], cells: set[Cell]) -> State:
+        """The state in which all but these registers and cells are narrowed to what they are in another."""
+        kept = self.copy()
+        for register, (known, more) in enumerate(zip(self.registers, entered.registers)):
+            if known != more and register not in registers:
+                kept.registers[register] = met(known, more) or known
+        for cell, known in self.cells.items():
+            if known != entered.cells[cell] and cell not in cells:
+                kept.cells[cell] = met(known, entered.cells[cell]) or known
+        return kept
+
     def made_of(self, register: int, name: str, source: int, constant: int, origin: Origin | None) -> None:
         """Notes that a register has been made of another, or of itself, by an instruction with a constant. `origin` is what the
         other was made of before."""
@@ -163,6 +176,10 @@ class Analysis:
         self.places = {label: index for index, it in enumerate(self.lines) for label in it.labels}
         self.thresholds = self.bounds()
         self.heads = self.block_heads()
+        order = sorted(self.heads | {len(self.lines)})
+        self.ends = {head: following - 1 for head, following in zip(order, order[1:])}
+        self.leads = {head: self.next_lines(end) for head, end in self.ends.items()}
+        self.cycles = components(self.leads)
         self.found: set[Cell] = set()
         while True:
             self.run()
@@ -214,7 +231,8 @@ class Analysis:
                     waiting.add(target)
                     heappush(pending, target)
         for _ in range(ROUNDS):
-            self.narrow_all()
+            if not self.narrow_all():
+                break
         self.fill()
 
     def merge(self, target: int, state: State, visits: list[int]) -> bool:
@@ -248,16 +266,53 @@ class Analysis:
             high = self.thresholds[bisect_left(self.thresholds, high)]
         return normal(low, high)
 
-    def narrow_all(self) -> None:
-        """Reckons each state anew from those before it, once."""
-        fresh: dict[int, State] = {0: self.start()}
-        for head in sorted(self.heads):
-            if head < len(self.lines) and self.states[head] is not None:
-                for target, state in self.block_ways(head):
-                    fresh[target] = fresh[target].joined(state) if target in fresh else state.copy()
-        for head in self.heads:
-            if head < len(self.lines):
-                self.states[head] = self.limited(head, fresh[head]) if head in fresh else None
+    def narrow_all(self) -> bool:
+        """Reckons each state anew from those before it, once, in the order of the lines; whether one has changed."""
+        before: dict[int, list[int]] = {head: [] for head in self.heads}
+        for head, targets in self.leads.items():
+            for target in targets:
+                before[target].append(head)
+        old = [self.states[head] for head in self.leads]
+        self.narrow_cycles()
+        for head in sorted(self.leads):
+            if self.states[head] is not None:
+                fresh = self.joined([self.start()] if head == 0 else [], before[head], head)
+                self.states[head] = self.limited(head, fresh) if fresh else None
+        return old != [self.states[head] for head in self.leads]
+
+    def joined(self, states: list[State], heads: Iterable[int], target: int) -> State | None:
+        """What is known where a way comes from one of some blocks to a line, or with one of some states."""
+        found = [*states, *(it for head in heads if self.states[head] is not None for to, it in self.block_ways(head) if to == target)]
+        return reduce(State.joined, found[1:], found[0].copy()) if found else None
+
+    def narrow_cycles(self) -> None:
+        """In a cycle whose lines do not write a register, it has what it has where the cycle is entered; so has a cell."""
+        written = {head: self.written_in(head) for head in self.leads if self.states[head] is not None}
+        for cycle in self.cycles:
+            entries = {(head, to) for head, targets in self.leads.items() if head not in cycle for to in targets if to in cycle}
+            known = [it for head, to in entries if (it := self.joined([], [head], to))]
+            if 0 in cycle or not known:
+                continue
+            entered, reached = reduce(State.joined, known), [head for head in cycle if head in written]
+            registers = set[int]().union(*(written[head][0] for head in reached))
+            cells = set[Cell]().union(*(written[head][1] for head in reached))
+            for head in reached:
+                state = self.states[head]
+                self.states[head] = state.kept_to(entered, registers, cells) if state else None
+
+    def written_in(self, head: int) -> tuple[set[int], set[Cell]]:
+        """The registers and cells that lines of a block may write."""
+        registers: set[int] = set()
+        cells: set[Cell] = set()
+        for index, state in self.along(head):
+            it = self.operations[index]
+            if it.name in STORES:
+                cells |= set(self.touched(self.access(it, state)))
+            elif it.name != "ecall":
+                registers.add(it.rd)
+            elif not is_silent(state):
+                registers |= set(ANSWERS)
+        return registers, cells
 
     def fill(self) -> None:
         """The states within blocks."""
@@ -316,7 +371,7 @@ class Analysis:
 
     def end_of(self, head: int) -> int:
         """The last line of the block at a head."""
-        return max(index for index, _ in self.along(head))
+        return self.ends[head]
 
     def step(self, it: Operation, state: State) -> None:
         """What an instruction that is no branch does to what is known."""

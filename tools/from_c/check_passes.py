@@ -15,6 +15,7 @@ sys.dont_write_bytecode = True
 from advice import Refused, advice_on, index_of  # noqa: E402
 from analysis import Memory, Region  # noqa: E402
 from checks import with_checks  # noqa: E402
+from components import components  # noqa: E402
 from faults import Fault, Place  # noqa: E402
 from lines import STOP, Line, with_stop  # noqa: E402
 from loops import loops  # noqa: E402
@@ -337,6 +338,34 @@ def walks_are_bounded() -> None:
         assert state is not None and state.registers[6][1] > 0x4010
 
 
+# A register and a word of the stack have two values in turns of the outer loop, and an inner one uses neither.
+CYCLES = """
+addi x5 x0 0
+outer: andi x6 x5 1
+slli x6 x6 2
+sw x6 -16(x2)
+addi x7 x0 0
+inner: addi x7 x7 1
+sltiu x8 x7 20
+bne x8 x0 -> inner
+last: lw x10 -16(x2)
+addi x5 x5 1
+sltiu x8 x5 16
+bne x8 x0 -> outer
+ecall
+"""
+
+
+def cycles_keep_what_they_do_not_write() -> None:
+    """In a loop a register or word that it does not write is what it was before it; not where it writes it."""
+    graph = {0: [1], 1: [2, 5], 2: [3], 3: [3, 2, 4], 4: [1], 5: []}
+    assert components(graph) == [frozenset({1, 2, 3, 4}), frozenset({2, 3}), frozenset({3})]
+    for more, register, word in (("", (0, 4), (0, 4)), ("addi x6 x6 1\n", ANY, (0, 4)), ("sw x7 -16(x2)\n", (0, 4), ANY)):
+        known = analysed(program(CYCLES.replace("sltiu x8 x7", f"{more}sltiu x8 x7")), setting())
+        states = [known.states[known.places[it]] for it in ("inner", "last")]
+        assert states[0] and states[1] and states[0].registers[6] == register and states[1].cells[0x5FF0, 4] == word, states
+
+
 def refused_lines_are_named() -> None:
     """The variables of refused lines are named, and what to write."""
     lines = program(REFUSED)
@@ -378,6 +407,7 @@ def main() -> None:
         marks_become_counters,
         variables_are_read,
         walks_are_bounded,
+        cycles_keep_what_they_do_not_write,
         refused_lines_are_named,
     ):
         check()
