@@ -117,16 +117,14 @@ class State:
         if found and size_of(found) < size_of(self.registers[register]):
             self.narrow(register, found)
 
-    def kept_to(self, entered: State, registers: set[int], cells: set[Cell]) -> State:
-        """The state in which all but these registers and cells are narrowed to what they are in another."""
-        kept = self.copy()
-        for register, (known, more) in enumerate(zip(self.registers, entered.registers)):
+    def keep_to(self, other: State, registers: set[int], cells: set[Cell]) -> None:
+        """Narrows all but these registers and cells to what they are in another state."""
+        for register, (known, more) in enumerate(zip(self.registers, other.registers)):
             if known != more and register not in registers:
-                kept.registers[register] = met(known, more) or known
+                self.registers[register] = met(known, more) or known
         for cell, known in self.cells.items():
-            if known != entered.cells[cell] and cell not in cells:
-                kept.cells[cell] = met(known, entered.cells[cell]) or known
-        return kept
+            if known != other.cells[cell] and cell not in cells:
+                self.cells[cell] = met(known, other.cells[cell]) or known
 
     def made_of(self, register: int, name: str, source: int, constant: int, origin: Origin | None) -> None:
         """Notes that a register has been made of another, or of itself, by an instruction with a constant. `origin` is what the
@@ -272,13 +270,13 @@ class Analysis:
         for head, targets in self.leads.items():
             for target in targets:
                 before[target].append(head)
-        old = [self.states[head] for head in self.leads]
+        old = [it and it.copy() for it in self.states]
         self.narrow_cycles()
         for head in sorted(self.leads):
             if self.states[head] is not None:
                 fresh = self.joined([self.start()] if head == 0 else [], before[head], head)
                 self.states[head] = self.limited(head, fresh) if fresh else None
-        return old != [self.states[head] for head in self.leads]
+        return old != self.states
 
     def joined(self, states: list[State], heads: Iterable[int], target: int) -> State | None:
         """What is known where a way comes from one of some blocks to a line, or with one of some states."""
@@ -298,7 +296,8 @@ class Analysis:
             cells = set[Cell]().union(*(written[head][1] for head in reached))
             for head in reached:
                 state = self.states[head]
-                self.states[head] = state.kept_to(entered, registers, cells) if state else None
+                if state is not None:
+                    state.keep_to(entered, registers, cells)
 
     def written_in(self, head: int) -> tuple[set[int], set[Cell]]:
         """The registers and cells that lines of a block may write."""

@@ -15,7 +15,7 @@ from pathlib import Path
 
 from advice import Refused, advice_on, sources_of
 from analysis import Memory, Region
-from building import RESERVED, Built, Folder, program_in, written
+from building import RESERVED, Built, Folder, placed_program, program_in, written
 from checks import with_checks
 from description import Description, Thread
 from lines import Line, with_stop
@@ -27,6 +27,8 @@ from words import Setting, analysed, with_guards, with_known_words
 
 # How often checks and counters are put into a program before a way is given up, and how many counters at once.
 ROUNDS, MOST_LOOPS = 12, 8
+# What is said in the place of a rule where more can be wrong than is said.
+MORE = "More"
 # Remainders are shown to be below their divisors, by a test.
 SHOWN = ("-DMICROSYS_SHOWN_REMAINDERS",)
 KEEP_LOOPS = (*SHOWN, "-fno-move-loop-invariants")
@@ -123,7 +125,7 @@ def accepted(
             break
         for name in names:
             try:
-                current[name] = attempts[name].send([it for it in refused if it.thread == name])
+                current[name] = attempts[name].send(at_origins(refused, current[name], described))
             except StopIteration as ended:
                 current[name] = ended.value
                 del attempts[name]
@@ -146,14 +148,32 @@ def attempts_at(plain: Built, described: Description, folder: Folder) -> Attempt
             said = yield it
             if not least or len(said) < len(least):
                 least, best = said, it
-            mended = mended_at(it, said, described) if before is None or len(said) < before else None
+            mended = mended_at(it, said, described) if goes_on(before, said) else None
             if mended is None:
                 break
-            it, before = mended, len(said)
+            it, before = mended, said
     found = [(refusal.line, refusal.rule) for refusal in least]
     text_at, is_checked = sources_of(folder, wanted.files if wanted else ()), wanted is not None and wanted.is_checked
     refused = Refused(best.program.lines, found, setting_of(best, described), names_in(best), text_at, is_checked)
     return replace(best, advice=advice_on(refused))
+
+
+def goes_on(before: list[Refusal] | None, said: list[Refusal]) -> bool:
+    """Whether a way is followed further: less is refused than before, or more than is said."""
+    return before is None or len(said) < len(before) or any(it.rule == MORE for it in said)
+
+
+def at_origins(refused: list[Refusal], it: Built, described: Description) -> list[Refusal]:
+    """What is refused of a program by the numbers of its lines, where the text has more of them: branches that lead far take two."""
+    placed = placed_program(it, described).lines
+    own = [refusal for refusal in refused if refusal.thread == it.thread.name]
+    return [replace(refusal, line=origin_of(refusal.line, placed)) for refusal in own]
+
+
+def origin_of(number: int, placed: list[Line]) -> int:
+    """The number of the line that a line of the text is of; -1 where there is none."""
+    origin = placed[number].origin if 0 <= number < len(placed) else None
+    return -1 if origin is None else origin
 
 
 def has_scratch(lines: list[Line]) -> bool:

@@ -103,7 +103,7 @@ def lines_of(it: Built, described: Description, filled: set[str]) -> list[str]:
 
 def placed_program(it: Built, described: Description) -> Program:
     """The program as it is written: what a failed check leads to is there, and branches reach where they lead."""
-    lines = [replace(line, labels=list(line.labels)) for line in it.program.lines]
+    lines = [replace(line, labels=list(line.labels), origin=number) for number, line in enumerate(it.program.lines)]
     return replace(it.program, lines=within_reach(with_stop(lines, described.bell(it.thread))))
 
 

@@ -9,15 +9,17 @@ from __future__ import annotations
 
 import random
 import sys
+from dataclasses import replace
 
 sys.dont_write_bytecode = True
 
 from advice import Refused, advice_on, index_of  # noqa: E402
 from analysis import Memory, Region  # noqa: E402
+from attempts import origin_of  # noqa: E402
 from checks import with_checks  # noqa: E402
 from components import components  # noqa: E402
 from faults import Fault, Place  # noqa: E402
-from lines import STOP, Line, with_stop  # noqa: E402
+from lines import REACH, STOP, Line, with_stop, within_reach  # noqa: E402
 from loops import loops  # noqa: E402
 from ranges import ANY, BRANCHES, HALF, MOST, Range, result, shown, signed, united, value_of  # noqa: E402
 from strides import with_strides  # noqa: E402
@@ -217,6 +219,64 @@ def turns_are_found() -> None:
     assert all(turns_of(it, known) is None for it in loops(lines) if it.head == 3), "an inner loop writes the counter"
 
 
+# A loop of six turns, of which some use the counter's register for something else, as a function does that is called there; and one
+# whose counter is in a word of the stack.
+KEPT = """
+    addi x9 x0 5
+    turn: lbu x20 0(x21)
+    beq x20 x0 -> after
+    {}
+    addi x9 x0 77
+    {}
+    after: addi x9 x9 -1
+    bge x9 x0 -> turn
+    """
+SPILLED = """
+    addi x9 x0 5
+    sw x9 -16(x2)
+    turn: lbu x20 0(x21)
+    beq x20 x0 -> after
+    {}
+    after: lw x9 -16(x2)
+    addi x9 x9 -1
+    sw x9 -16(x2)
+    bge x9 x0 -> turn
+    """
+
+
+def counters_are_followed() -> None:
+    """A counter that is put back from a register or a word is one, and so is a word that only each turn writes."""
+    rows = (
+        (KEPT.format("addi x7 x9 0", "addi x9 x7 0"), 6),
+        (KEPT.format("sw x9 -16(x2)", "lw x9 -16(x2)"), 6),
+        (KEPT.format("addi x7 x9 0", "addi x9 x9 0"), None),
+        (KEPT.format("addi x7 x9 0", "addi x7 x0 1\n    addi x9 x7 0"), None),
+        (KEPT.format("sw x9 -16(x2)", "sb x20 -15(x2)\n    lw x9 -16(x2)"), None),
+        (SPILLED.format("sw x20 -12(x2)"), 6),
+        (SPILLED.format("sw x20 -16(x2)"), None),
+    )
+    for text, wanted in rows:
+        lines = program(text)
+        found = turns_of(loops(lines)[0], analysed(lines, setting()))
+        assert found == wanted, (text, found)
+
+
+def dead_accesses_become_stops() -> None:
+    """A load that is never reached comes after a stop, without a note; one after a stop is left."""
+    lines = program("addi x5 x0 0\nbne x5 x0 -> dead\necall\nhere: jal x0 -> here\ndead: lw x6 0(x7)\njal x0 -> here")
+    checked = with_checks(lines, [4], setting(), False)
+    made = shown_text(checked.lines) if checked else []
+    assert checked and not checked.notes and made[4:6] == [f"jal x0 -> {STOP}", "lw x6 0(x7)"], made
+    assert checked.lines[4].labels == ["dead"] and with_checks(with_stop(checked.lines, 1), [5], setting(), False) is None
+
+
+def far_branches_keep_their_numbers() -> None:
+    """What is refused of a text is refused of the line that a turned branch and its jump were made of."""
+    lines = [*program("beq x5 x6 -> end"), *program("\n".join(["addi x7 x7 1"] * REACH + ["end: jal x0 -> end"]))]
+    placed = within_reach([replace(it, origin=number) for number, it in enumerate(lines)])
+    assert len(placed) == len(lines) + 1 and [origin_of(it, placed) for it in (0, 1, 2, REACH + 2, REACH + 3)] == [0, 0, 1, REACH + 1, -1]
+
+
 # A loop that is entered where 3 is below 2, which never is; and one in which a byte is put, beside numbers of calls in its register.
 NEVER = """
     top: addi x17 x0 5
@@ -403,6 +463,9 @@ def main() -> None:
         indices_are_checked,
         checks_stand_behind_tests,
         turns_are_found,
+        counters_are_followed,
+        dead_accesses_become_stops,
+        far_branches_keep_their_numbers,
         loops_without_waits_are_counted,
         marks_become_counters,
         variables_are_read,

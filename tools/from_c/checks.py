@@ -40,12 +40,14 @@ class Checked:
 
 def with_checks(lines: list[Line], at: list[int], setting: Setting, is_asked: bool) -> Checked | None:
     """The program with checks before the loads and stores at these lines: those that cannot fail by what is known, and the
-    others where they are asked for; nothing where there is none."""
+    others where they are asked for; and with a stop before those that are never reached. Nothing where there is none."""
     known, edits = with_strides(analysed(lines, setting)), Edits(lines)
     done: set[Limits] = set()
     notes: list[Note] = []
     for index in at:
-        if known.operations[index].width and known.states[index] is not None:
+        if known.states[index] is None and not is_after_stop(index, known):
+            edits.before(index, ["jal", "x0"], STOP)
+        elif known.operations[index].width and known.states[index] is not None:
             limits = limits_of(index, known, setting)
             is_known = limits is not None and is_borne(limits, known)
             if limits and limits not in done and (is_known or is_asked):
@@ -53,7 +55,12 @@ def with_checks(lines: list[Line], at: list[int], setting: Setting, is_asked: bo
                 count = put_check(limits, edits)
                 if not is_known:
                     notes.append(Note(lines[index].place, f"checked at run time by {count} instructions; where it fails the thread stops"))
-    return Checked(edits.done(), notes) if done else None
+    return Checked(edits.done(), notes) if edits.edits else None
+
+
+def is_after_stop(index: int, known: Analysis) -> bool:
+    """Whether the line before leads to the stop alone."""
+    return index > 0 and known.lines[index - 1].target == STOP and known.operations[index - 1].name == "jal"
 
 
 def is_borne(limits: Limits, known: Analysis) -> bool:

@@ -19,13 +19,15 @@ ASSERT_FAILED = "# An assert that fails waits here for ever."
 
 @dataclass
 class Line:
-    """An instruction of the program; a branch or jump leads to a label."""
+    """An instruction of the program; a branch or jump leads to a label. `origin` is the number of the line that it was made of as
+    branches were put within reach."""
 
     words: list[str]
     place: Place | None
     target: str | None = None
     labels: list[str] = field(default_factory=list)
     note: str = ""
+    origin: int | None = None
 
     def text(self) -> str:
         """The lines of the text form, with the place in the source as a comment."""
@@ -82,8 +84,8 @@ def within_reach(lines: list[Line]) -> list[Line]:
             turns += 1
             over = f"over_{turns}"
             inverse = [INVERSE[line.words[0]], *line.words[1:]]
-            turned.append(Line(inverse, line.place, over, line.labels, line.note))
-            turned.append(Line(["jal", "x0"], line.place, line.target))
+            turned.append(Line(inverse, line.place, over, line.labels, line.note, line.origin))
+            turned.append(Line(["jal", "x0"], line.place, line.target, origin=line.origin))
             lines[index + 1].labels.append(over)
         lines = turned
     return lines

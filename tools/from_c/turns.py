@@ -10,11 +10,11 @@ from __future__ import annotations
 
 from dataclasses import dataclass
 
-from analysis import Analysis, State
+from analysis import Analysis, Cell, State
 from faults import Fault, Note
 from lines import STOP, Line, constant
 from loops import WAITS, Loop, has_wait, loops
-from ranges import ANSWERS, ANY, BRANCHES, MOST, operation, plain, shown
+from ranges import ANSWERS, ANY, BRANCHES, MOST, STORES, operation, plain, shown
 from rewriting import SCRATCH, free_registers, live_before
 
 # How many turns of a loop are run to find that there is no further one.
@@ -127,15 +127,16 @@ class Counted:
 
 def with_found_turns(lines: list[Line], at: list[int], known: Analysis, given: set[int]) -> Counted | None:
     """The program with a counter for a loop without a measure that has one of these lines, the smallest whose turns are
-    found, or with a stop in the place of such a loop that is never entered; nothing where there is none."""
-    for loop in loops(lines):
-        if loop.body & set(at) and not may_wait(loop, known) and not is_counted(loop, known):
-            if known.states[loop.head] is None:
-                return Counted(stopped_at(loop.head, lines), loop.head, 0)
-            turns, counter = turns_of(loop, known), unused_in(loop, lines, given)
-            if turns is not None and counter is not None:
-                made = entered(*tested_at_head(loop, lines, counter), constant(counter, turns))
-                return Counted(made, loop.head, len(made) - len(lines))
+    found, those first that no register counts already, or with a stop in the place of such a loop that is never entered;
+    nothing where there is none."""
+    found = [it for it in loops(lines) if it.body & set(at) and not may_wait(it, known) and lines[it.head].target != STOP]
+    for loop in sorted(found, key=lambda it: is_counted(it, known)):
+        if known.states[loop.head] is None:
+            return Counted(stopped_at(loop.head, lines), loop.head, 0)
+        turns, counter = turns_of(loop, known), unused_in(loop, lines, given)
+        if turns is not None and counter is not None:
+            made = entered(*tested_at_head(loop, lines, counter), constant(counter, turns))
+            return Counted(made, loop.head, len(made) - len(lines))
     return None
 
 
@@ -196,15 +197,18 @@ def turns_and_end(loop: Loop, known: Analysis) -> tuple[int, int] | None:
     state = entry_of(loop, known)
     if state is None:
         return None
-    lost = {known.operations[it].rd for it in loop.body if it not in loop.each_turn}
+    others = [it for it in loop.body if it not in loop.each_turn]
+    lost = {known.operations[it].rd for it in others} - {0}
     if any(known.is_answered(it) for it in loop.body):
         lost |= set(ANSWERS)
+    lost = {it for it in lost if not is_intact(it, loop, known)}
+    words = {cell for line in others for cell in stored_at(line, known)}
     for turn in range(1, MOST_TURNS):
-        before = list(state.registers)
-        end = end_of_turn(loop, known, state, lost - {0})
+        before = list(state.registers), dict(state.cells)
+        end = end_of_turn(loop, known, state, lost, words)
         if end is not None:
             return turn, end
-        if state.registers == before:
+        if (state.registers, state.cells) == before:
             return None
     return None
 
@@ -220,14 +224,52 @@ def entry_of(loop: Loop, known: Analysis) -> State | None:
     return found
 
 
-def end_of_turn(loop: Loop, known: Analysis, state: State, lost: set[int]) -> int | None:
+def is_intact(register: int, loop: Loop, known: Analysis) -> bool:
+    """Whether a register holds again what it held, wherever lines that are not run in each turn lead from one that is to the next:
+    a function that is called keeps it elsewhere and puts it back."""
+    held: dict[int, frozenset[int | Cell]] = {}
+    pending = list(loop.each_turn)
+    while pending:
+        line = pending.pop()
+        own = {register} if line in loop.each_turn else set[int | Cell]()
+        after = holders_after(line, frozenset(own) or held[line], known) | own
+        for following in known.next_lines(line):
+            new = after & held.get(following, after)
+            if following in loop.body and held.get(following) != new:
+                held[following] = new
+                pending += [] if following in loop.each_turn else [following]
+    return all(register in held.get(it, {register}) for it in loop.each_turn)
+
+
+def holders_after(line: int, held: frozenset[int | Cell], known: Analysis) -> frozenset[int | Cell]:
+    """The registers and words that hold a value after a line, of those that hold it before."""
+    it, state = known.operations[line], known.states[line]
+    access = known.access(it, state) if it.width and state is not None else None
+    cell = access.cell if access and access.cell in known.cells and it.width == 4 else None
+    if it.name in STORES:
+        kept = held - set(stored_at(line, known))
+        return kept | {cell} if cell and it.rs2 in held else kept
+    if it.name == "ecall":
+        return held - set(ANSWERS) if known.is_answered(line) else held
+    source = it.rs1 if it.name == "addi" and it.constant == 0 else cell
+    return held | {it.rd} if it.rd and source in held else held - {it.rd}
+
+
+def stored_at(line: int, known: Analysis) -> list[Cell]:
+    """The words that a line may store."""
+    it, state = known.operations[line], known.states[line]
+    return known.touched(known.access(it, state)) if it.name in STORES and state is not None else []
+
+
+def end_of_turn(loop: Loop, known: Analysis, state: State, lost: set[int], words: set[Cell]) -> int | None:
     """Runs what is run in each turn; the branch that ends the loop there, or nothing where there can be a further turn. Where
     one line of it does not lead to the next alone, others may be run between them, which write the registers that are `lost`,
-    and all of the memory."""
+    and these words."""
     before = loop.end
     for line in loop.each_turn:
         if [it for it in known.next_lines(before) if it in loop.body] != [line]:
-            forget(state, lost)
+            forget(state, lost, words)
+            state.keep_to(known.states[line] or state, set(), set())
         it, before = known.operations[line], line
         if it.name in BRANCHES:
             stays = [taken for taken, target in known.targets_of(line) if target in loop.body]
@@ -238,14 +280,15 @@ def end_of_turn(loop: Loop, known: Analysis, state: State, lost: set[int]) -> in
                 state.narrow(it.rs1, seen[0])
                 state.narrow(it.rs2, seen[1])
         elif it.name == "ecall" and known.is_answered(line):
-            forget(state, set(ANSWERS))
+            forget(state, set(ANSWERS), set())
         elif it.name not in ("jal", "ecall"):
             known.step(it, state)
     return None
 
 
-def forget(state: State, registers: set[int]) -> None:
-    """Forgets what some registers and all words hold."""
+def forget(state: State, registers: set[int], words: set[Cell]) -> None:
+    """Forgets what some registers and words hold."""
     for register in registers:
         state.put(register, ANY)
-    state.cells, state.copies = dict.fromkeys(state.cells, ANY), {}
+    state.cells.update(dict.fromkeys(words, ANY))
+    state.copies = {register: cell for register, cell in state.copies.items() if cell not in words}
