@@ -77,7 +77,7 @@ fn put_only_group(
 }
 
 /// The parts of an accepted image, with the names of its text: a line for each two of them and each object that one may change and the
-/// other takes, and then one for each group.
+/// other takes (of more than eight objects between two the first, and how many more), and then one for each group.
 ///
 /// # Errors
 ///
@@ -89,7 +89,7 @@ pub fn parts_report(
     parts: &Parts<'_, '_>,
 ) -> Result<String, AllocError> {
     let uses = all_uses(alloc, text, image)?;
-    let arrows = arrows_of(alloc, text.threads.len(), parts)?;
+    let arrows = arrows_of(alloc, text.objects.len(), text.threads.len(), parts)?;
     let groups = groups_of(alloc, text.threads.len(), &arrows)?;
     let mut lines = String::new(alloc);
     arrows.put_all(text, uses.as_slice(), &mut lines)?;
@@ -111,7 +111,7 @@ pub fn groups_report(
     text: &SourceText<'_>,
     parts: &Parts<'_, '_>,
 ) -> Result<String, AllocError> {
-    let arrows = arrows_of(alloc, text.threads.len(), parts)?;
+    let arrows = arrows_of(alloc, text.objects.len(), text.threads.len(), parts)?;
     let groups = groups_of(alloc, text.threads.len(), &arrows)?;
     let mut lines = String::new(alloc);
     if groups.all().len() > 1 {
@@ -145,7 +145,7 @@ pub fn alone_report(
     threads: u64,
 ) -> Result<String, AllocError> {
     let mut lines = String::new(alloc);
-    let arrows = arrows_of(alloc, text.threads.len(), parts)?;
+    let arrows = arrows_of(alloc, text.objects.len(), text.threads.len(), parts)?;
     if !parts.takes_nothing(threads) {
         let uses = all_uses(alloc, text, image)?;
         arrows.put_into(text, uses.as_slice(), threads, &mut lines)?;
