@@ -27,6 +27,14 @@ pub enum Mistake<'a> {
     NoProgram {
         part: &'a str,
     },
+    /// It is said how soon the part deals with its interrupts, and it has none.
+    NoLine {
+        part: &'a str,
+    },
+    /// So it is, and how often this one comes is not said.
+    NoEvery {
+        number: u32,
+    },
     /// There is no part.
     NoPart,
     /// The line is not of the form that its first word has.

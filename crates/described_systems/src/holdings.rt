@@ -98,6 +98,37 @@ impl<'a> Part<'a> {
         }
     }
 
+    /// After how many instructions the last of its interrupts may come once more.
+    pub(crate) fn set_every(&mut self, every: u32) {
+        if let Some(rate) = self.rates.last_mut() {
+            rate.every = Some(every);
+        }
+    }
+
+    /// How many of its last interrupt may come at once.
+    pub(crate) fn set_burst(&mut self, burst: u32) {
+        if let Some(rate) = self.rates.last_mut() {
+            rate.burst = Some(burst);
+        }
+    }
+
+    /// Where it is said how soon the part deals with its interrupts it has one at least, and each has a rate.
+    pub(crate) fn check_within(&self) -> Result<(), DescriptionFault<'a>> {
+        let Some(within) = self.within else {
+            return Ok(());
+        };
+        if self.rates.is_empty() {
+            return Err(fault(within.line, Mistake::NoLine { part: self.name }));
+        }
+        for rate in &self.rates {
+            if rate.every.is_none() {
+                let number = rate.number;
+                return Err(fault(within.line, Mistake::NoEvery { number }));
+            }
+        }
+        Ok(())
+    }
+
     /// A page that the part has not so far.
     pub(crate) fn add_view(&mut self, view: View<'a>) -> Result<(), DescriptionFault<'a>> {
         match self.view_line(view.page) {

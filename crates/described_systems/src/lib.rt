@@ -17,7 +17,7 @@ pub use declared::{Declaration, Kind, Promise, System};
 pub use faults::{DescriptionFault, Mistake};
 pub use joined::{Joined, Named, Place, named_on};
 pub use parts::{
-    Budget, Buffer, CodeLine, Held, Part, Pool, RegisterLine, Slot, Sources, View, Within,
+    Budget, Buffer, CodeLine, Held, Part, Pool, Rate, RegisterLine, Slot, Sources, View, Within,
 };
 pub use reading::{is_description, read};
 pub use reports::push_fault;

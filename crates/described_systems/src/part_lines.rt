@@ -4,7 +4,7 @@ use crate::declared::Kind;
 use crate::faults::{DescriptionFault, Mistake, fault};
 use crate::forms;
 use crate::names::Names;
-use crate::parts::{Budget, Buffer, Held, Part, Pool, RegisterLine, Sources, View, Within};
+use crate::parts::{Budget, Buffer, Held, Part, Pool, Rate, RegisterLine, Sources, View, Within};
 use crate::words::{address, listed, number, page_address};
 use std::alloc::Global;
 
@@ -99,22 +99,20 @@ impl<'a> Place<'a, '_> {
         words: &[&'a str],
     ) -> Result<(), DescriptionFault<'a>> {
         let mut is_any = false;
-        let mut is_rated = false;
         for pair in words.chunks(2) {
             match pair {
                 [word, value] if *word == "line" => {
                     self.interrupt(part, bell, *value)?;
                     is_any = true;
                 }
-                [word, value] if is_any && (*word == "every" || *word == "burst") => {
-                    number(self.line, *value, 1, u32::MAX)?;
-                    is_rated = true;
+                [word, value] if is_any && *word == "every" => {
+                    part.set_every(number(self.line, *value, 1, u32::MAX)?);
+                }
+                [word, value] if is_any && *word == "burst" => {
+                    part.set_burst(number(self.line, *value, 1, u32::MAX)?);
                 }
                 _ => return Err(other_form(self.line, forms::WAITS)),
             }
-        }
-        if is_rated {
-            part.rates.push(self.line)?;
         }
         Ok(())
     }
@@ -127,6 +125,12 @@ impl<'a> Place<'a, '_> {
         word: &'a str,
     ) -> Result<(), DescriptionFault<'a>> {
         let number = number(self.line, word, 0, 63)?;
+        part.rates.push(Rate {
+            line: self.line,
+            number,
+            every: None,
+            burst: None,
+        })?;
         part.add_slot(self.line, Held::Line { bell, number })
     }
 

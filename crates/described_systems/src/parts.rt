@@ -80,6 +80,17 @@ pub struct Buffer<'a> {
     pub page: &'a str,
 }
 
+/// An interrupt of a line `waits`, `line N [every P] [burst B]`
+#[derive(Clone, Copy)]
+pub struct Rate {
+    pub line: u64,
+    pub number: u32,
+    /// After how many instructions there may be one more.
+    pub every: Option<u32>,
+    /// How many may come at once.
+    pub burst: Option<u32>,
+}
+
 /// `reg xN VALUE`, which a text has as it is
 #[derive(Clone, Copy)]
 pub struct RegisterLine<'a> {
@@ -144,8 +155,8 @@ pub struct Part<'a> {
     pub slots: Vec<Slot<'a>>,
     pub views: Vec<View<'a>>,
     pub buffer: Option<Buffer<'a>>,
-    /// The lines that say how often an interrupt comes.
-    pub rates: Vec<u64>,
+    /// How often its interrupts come.
+    pub rates: Vec<Rate>,
     pub pool: Option<Pool>,
     pub registers: Vec<RegisterLine<'a>>,
     pub budget: Option<Budget<'a>>,

@@ -273,6 +273,7 @@ impl<'a> Reader<'a> {
                 if part.code.is_empty() && part.sources.is_none() {
                     return Err(fault(part.line, Mistake::NoProgram { part: part.name }));
                 }
+                part.check_within()?;
                 self.parts.push(part)?;
                 Ok(())
             }

@@ -42,6 +42,15 @@ fn push_order(to: &mut String, mistake: Mistake<'_>) -> Result<(), AllocError> {
                 "part {part} has no program: write `code` and instructions, or `program FILE.c`"
             )
         }
+        Mistake::NoLine { part } => {
+            write!(
+                to,
+                "part {part} waits for no interrupt line: `within` says nothing"
+            )
+        }
+        Mistake::NoEvery { number } => {
+            write!(to, "line {number} has no `every`: `within` says nothing")
+        }
         Mistake::NoPart => to.push_str("a system has a part, and this has none"),
         Mistake::OtherForm { form } => write!(to, "the form of such a line is `{form}`"),
         mistake => push_word(to, mistake),

@@ -241,23 +241,7 @@ impl Notes<'_> {
                 " name slots by numbers, which change with the description: `certify` finds them",
             )?;
         }
-        for line in &part.rates {
-            self.begin(*line)?;
-            self.text.push_str(
-                "`every` and `burst` are not checked: no bound of responses is known yet\n",
-            )?;
-        }
-        match part.within {
-            Some(within) => {
-                let steps = within.steps;
-                self.begin(within.line)?;
-                write!(
-                    &mut self.text,
-                    "`within {steps}` is not checked: no bound of responses is known yet\n"
-                )
-            }
-            None => Ok(()),
-        }
+        Ok(())
     }
 
     /// Parts with equal badges at one door.

@@ -9,7 +9,9 @@ use crate::plans::{PartPlan, Plan};
 use crate::programs::{Entry, Program};
 use crate::sizes::power_of_two;
 use crate::writer::Writer;
-use described_systems::{Buffer, Declaration, Held, Joined, Part, Pool, Promise, Sources, System};
+use described_systems::{
+    Buffer, Declaration, Held, Joined, Part, Pool, Promise, Rate, Sources, System,
+};
 use indexmap::IndexMap;
 use std::alloc::{AllocError, Global};
 
@@ -90,6 +92,31 @@ impl Writer<'_> {
             "irq {bell}_line{number} {number} {bell} {badge}"
         )?;
         self.end(interrupt.line)
+    }
+
+    /// `#rate` of an interrupt of which it is said how often it comes: without `every` no more often than its burst
+    fn put_rate(&mut self, rate: &Rate) -> Result<(), AllocError> {
+        if rate.every.is_none() && rate.burst.is_none() {
+            return Ok(());
+        }
+        let (number, burst) = (rate.number, rate.burst.unwrap_or(1));
+        write!(&mut self.text, "#rate {number} {burst}")?;
+        if let Some(every) = rate.every {
+            write!(&mut self.text, " {every}")?;
+        }
+        self.end(rate.line)
+    }
+
+    /// `#within`
+    fn put_within(&mut self, part: &Part<'_>) -> Result<(), AllocError> {
+        match part.within {
+            Some(within) => {
+                let steps = within.steps;
+                write!(&mut self.text, "#within {steps}")?;
+                self.end(within.line)
+            }
+            None => Ok(()),
+        }
     }
 
     /// `cap` of what parts share
@@ -314,6 +341,7 @@ impl Writer<'_> {
         };
         let entry = program.entry()?;
         self.put_thread(part, plan, &entry)?;
+        self.put_within(part)?;
         self.put_registers(part)?;
         match &part.sources {
             Some(sources) => self.put_sources(sources, &plan.places)?,
@@ -331,6 +359,11 @@ impl Writer<'_> {
         }
         for interrupt in &plan.interrupts {
             self.put_interrupt(interrupt)?;
+        }
+        for part in &system.parts {
+            for rate in &part.rates {
+                self.put_rate(rate)?;
+            }
         }
         for capability in &plan.capabilities {
             self.put_capability(capability)?;
