@@ -1,10 +1,11 @@
 //! A trace as a chart.
 
+use crate::answers::{AnswerBar, AnswerCount, LineAnswer, begin, carry, count, no_bars};
 use crate::cells::{Cell, Cells, Shape, Window, cells_of};
 use crate::faults::DrawingFault;
 use crate::lane_names::{LaneName, left_of, said_of_rest};
 use crate::layouts::{FOOT, HEAD, LANE, Layout, WIDTH, width_of};
-use crate::signs::{LEGEND, STYLE, WORLD_LEGEND, WORLD_STYLE, push_said};
+use crate::signs::{ANSWER_LEGEND, LEGEND, STYLE, WORLD_LEGEND, WORLD_STYLE, push_said};
 use crate::threads::Rest;
 use crate::words::shown_word;
 use named_traces::TextNames;
@@ -23,6 +24,8 @@ pub struct ChartRequest<'a> {
     pub from: Option<u64>,
     /// The last event that is drawn.
     pub to: Option<u64>,
+    /// The threads that deal with interrupts within so many instructions, as far as that is known.
+    pub answers: &'a [LineAnswer],
 }
 
 /// The colours of the lanes.
@@ -31,7 +34,7 @@ const COLOURS: [&str; 6] = [
 ];
 
 /// The colour of what the world does.
-const WORLD: &str = "#8d3b70";
+pub(crate) const WORLD: &str = "#8d3b70";
 
 /// How high the curve of a word is at most, and how far its foot is below the top of its lane.
 const CURVE: u32 = 14;
@@ -57,19 +60,21 @@ struct WordLane {
 
 /// A chart that is being drawn.
 #[derive(Drop)]
-struct Canvas<'c, 't> {
-    alloc: Global,
-    cells: &'c Cells,
+pub(crate) struct Canvas<'c, 't> {
+    pub(crate) alloc: Global,
+    pub(crate) cells: &'c Cells,
     text: Option<&'c TextNames<'t>>,
     names: &'c [LaneName],
-    layout: Layout,
+    pub(crate) layout: Layout,
     lanes: Vec<Lane>,
     words: Vec<WordLane>,
+    pub(crate) bars: Vec<AnswerBar>,
+    pub(crate) counts: Vec<AnswerCount>,
     /// The band at hand.
-    band: u32,
+    pub(crate) band: u32,
     /// From where on the next number of a line may be.
     number_from: u32,
-    svg: String,
+    pub(crate) svg: String,
 }
 
 /// The colour of a lane.
@@ -190,7 +195,7 @@ impl Canvas<'_, '_> {
     }
 
     /// What is said in small letters.
-    fn push_small(&mut self, said: &str, x: u32, base: u32) -> Result<(), AllocError> {
+    pub(crate) fn push_small(&mut self, said: &str, x: u32, base: u32) -> Result<(), AllocError> {
         write!(
             self.svg,
             "<text class=\"l\" x=\"{x}\" y=\"{base}\" dx=\"3\">"
@@ -289,6 +294,8 @@ impl Canvas<'_, '_> {
     /// Ends the band at hand, up to where its last cell ends, and begins the next one.
     fn turn(&mut self, until: u32) -> Result<(), AllocError> {
         self.push_ends(until)?;
+        self.push_answers(until)?;
+        carry(&mut self.bars, self.layout.left);
         self.band = self.band.saturating_add(1);
         self.number_from = 0;
         for lane in &mut self.lanes {
@@ -449,16 +456,25 @@ impl Canvas<'_, '_> {
         let end = x.saturating_add(width);
         match cell.shape {
             Shape::Tick => self.push_above(x, None),
-            Shape::Interrupt(number) => self.push_above(x, Some(number)),
-            Shape::Idle { .. } => self.push_idle(x, width),
-            Shape::Run { lane, .. } => {
+            Shape::Interrupt(number) => {
+                begin(&mut self.bars, number, x.saturating_add(4));
+                self.push_above(x, Some(number))
+            }
+            Shape::Idle { count: steps } => {
+                count(&mut self.bars, steps);
+                self.push_idle(x, width)
+            }
+            Shape::Run { lane, count: steps } => {
+                count(&mut self.bars, steps);
                 self.run(lane, x, end, Rest::Ready)?;
                 self.push_bar(lane, x, width, colour(lane))
             }
             Shape::World { row, word, writes } => self.push_world(row, x, word, writes),
             Shape::Event { lane, pc, mark } => {
+                count(&mut self.bars, 1);
                 self.run(lane, x, end, Rest::after(mark, pc))?;
-                self.push_event(lane, x, width, mark)
+                self.push_event(lane, x, width, mark)?;
+                self.end_answers(lane, mark, end)
             }
         }
     }
@@ -487,7 +503,8 @@ impl Canvas<'_, '_> {
             self.push_cell(cell, at.x)?;
             place = at.behind(cell);
         }
-        self.push_ends(place.x)
+        self.push_ends(place.x)?;
+        self.push_answers(place.x)
     }
 }
 
@@ -543,10 +560,17 @@ fn push_head(svg: &mut String, right: u32, foot: u32, has_words: bool) -> Result
     svg.push_str("<rect width=\"100%\" height=\"100%\" fill=\"#fff\"/>\n")
 }
 
-/// What the signs mean, and the end of the chart.
-fn push_legend(svg: &mut String, x: u32, y: u32, has_words: bool) -> Result<(), AllocError> {
+/// What the signs mean, and the end of the chart, which has words of the world, and bars of interrupts, or none.
+fn push_legend(
+    svg: &mut String,
+    x: u32,
+    y: u32,
+    has_words: bool,
+    has_bars: bool,
+) -> Result<(), AllocError> {
     write!(svg, "<g transform=\"translate({x} {y})\">")?;
     svg.push_str(if has_words { WORLD_LEGEND } else { "" })?;
+    svg.push_str(if has_bars { ANSWER_LEGEND } else { "" })?;
     svg.push_str(LEGEND)
 }
 
@@ -559,20 +583,17 @@ impl Canvas<'_, '_> {
         let has_words = !self.words.is_empty();
         push_head(&mut self.svg, self.layout.right(), foot, has_words)?;
         self.push_cells()?;
-        push_legend(
-            &mut self.svg,
-            self.layout.left,
-            foot.saturating_add(6),
-            has_words,
-        )
+        let (x, y) = (self.layout.left, foot.saturating_add(6));
+        push_legend(&mut self.svg, x, y, has_words, !self.bars.is_empty())
     }
 }
 
-/// The chart of cells, with what a text says of them.
+/// The chart of cells, with what a text says of them, and how soon threads deal with interrupts.
 fn chart_of(
     alloc: Global,
     cells: &Cells,
     text: Option<&TextNames<'_>>,
+    answers: &[LineAnswer],
 ) -> Result<String, AllocError> {
     let names = lane_names(alloc, cells, text)?;
     let layout = Layout {
@@ -587,6 +608,8 @@ fn chart_of(
         layout,
         lanes: first_lanes(alloc, cells, layout.left)?,
         words: first_words(alloc, cells, layout.left)?,
+        bars: no_bars(alloc, answers)?,
+        counts: Vec::new(alloc),
         band: 0,
         number_from: 0,
         svg: String::new(alloc),
@@ -606,7 +629,8 @@ fn names_in<'t>(alloc: Global, text: Option<&'t str>) -> Result<Option<TextNames
 /// Puts a trace as a picture (SVG): a lane for each thread, in the order in which they first run, with what it did and where it waits,
 /// and ticks, interrupts and what the world writes (an arrow down) and reads (an arrow up) above; below the threads a row for each word
 /// that the world writes or reads, with its values. Long runs of one thread are drawn shorter, and what does not fit beside it is put in
-/// the next band. With the text of the image threads have their names, with the most instructions from one wait to the next and the
+/// the next band. Below the lane of a thread that deals with interrupts there is a bar from each interrupt to its next wait, with how many
+/// instructions that took, and how many at most. With the text of the image threads have their names, with the most instructions from one wait to the next and the
 /// budget, where they wait or faulted is said by label and line, and the lines of the trace may have its names. Of the events before and
 /// after those that are drawn it is read who runs.
 ///
@@ -626,7 +650,7 @@ pub fn chart<S: Sink>(
         to: request.to.unwrap_or(u64::MAX),
     };
     let cells = cells_of(alloc, trace, names.as_ref(), window)?;
-    let chart = chart_of(alloc, &cells, names.as_ref())?;
+    let chart = chart_of(alloc, &cells, names.as_ref(), request.answers)?;
     put_all(output, chart.as_bytes())?;
     Ok(())
 }

@@ -1,6 +1,7 @@
 //! Pictures of systems: what a text describes as a graph, and what a trace records as a chart.
 #![tactic(auto)]
 
+mod answers;
 mod cells;
 mod charts;
 mod faults;
@@ -16,6 +17,7 @@ mod signs;
 mod threads;
 mod words;
 
+pub use answers::LineAnswer;
 pub use charts::{ChartRequest, chart};
 pub use faults::DrawingFault;
 pub use graphs::draw;
