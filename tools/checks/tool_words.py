@@ -34,6 +34,7 @@ SECTIONS = {
     "diff": "What an image holds, and what changes between two",
     "cover": "What ran",
     "parts": "Parts",
+    "response": "How soon",
     "alone": "Parts",
 }
 # Arguments that are systems, whose parts may be in C.

@@ -47,6 +47,7 @@ SYSTEMS = {
     "diff": ((0, 1), 2, 2),
     "cover": ((0,), 2, 1000),
     "parts": ((0,), 1, 1),
+    "response": ((0,), 1, 193),
     "alone": ((0,), 1, 66),
 }
 # The words whose last file is written.

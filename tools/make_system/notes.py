@@ -26,7 +26,6 @@ SERVES = "THREAD a(void) { for (;;) { sys_recv(CAP_P); sys_reply(MESSAGE(0)); MO
 CALLS = "THREAD c(void) { for (;;) { MORE sys_call(CAP_P, MESSAGE(0)); } }"
 SERVER = "door p\npart a 1\nserves p\nprogram a.c\nend\npart c 1\ncalls p\nprogram c.c\nend\n"
 SOME = "THREAD a(void) { for (;;) { struct message m = sys_recv(CAP_P); ANSWER } }"
-EVERY = "bell b\npart a 1\nwaits b line 7 {0}\n{1}program a.c\nend\n"
 ROWS = [
     (
         "interrupt line 7 rings b once: no way of a from a wait to the next one acknowledges it",
@@ -54,12 +53,6 @@ ROWS = [
         (SERVER, {"a": SOME.replace("ANSWER", "if (m.words[0]) sys_reply(MESSAGE(0));"), "c": CALLS.replace("MORE", "")}),
         (SERVER, {"a": SOME.replace("ANSWER", "sys_reply(MESSAGE(0, m.words[0]));"), "c": CALLS.replace("MORE", "")}),
     ),
-    (
-        "`every` and `burst` are not checked",
-        (EVERY.format("every 100 burst 2", ""), {"a": ACKS}),
-        (EVERY.format("", ""), {"a": ACKS}),
-    ),
-    ("`within 60` is not checked", (EVERY.format("", "within 60\n"), {"a": ACKS}), (EVERY.format("", ""), {"a": ACKS})),
 ]
 
 

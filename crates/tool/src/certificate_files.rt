@@ -3,6 +3,7 @@
 use crate::certification::{CertifiedText, NotCertified, certified};
 use crate::messages::report_of;
 use crate::reports::{ToolFault, reported_name, unexplained};
+use crate::responding::check_text;
 use crate::sources::check_target;
 use console::{STANDARD, read_stream, write_file};
 use explaining::{Certificates, Text};
@@ -69,6 +70,23 @@ pub(crate) fn uncertified<'a>(
     }
 }
 
+/// Puts a text with its certificates where it is wanted, if its threads deal with interrupts as soon as it asks.
+fn put_checked<'a, R: Files + AllocGlobal, W: Sink, E: Sink>(
+    rt: &R,
+    source: &'a str,
+    target: &'a str,
+    made: &CertifiedText,
+    output: &mut W,
+    errors: &mut E,
+) -> Result<(), ToolFault<'a>> {
+    check_text(rt.alloc(), source, made.text.as_slice())?;
+    if target == STANDARD {
+        Ok(put_made(made, output, errors)?)
+    } else {
+        write_made(rt, target, made, output)
+    }
+}
+
 /// Puts a text from a file with its certificates where it is wanted.
 fn certify_text<'a, R: Files + Clock + AllocGlobal, W: Sink, E: Sink>(
     rt: &R,
@@ -79,8 +97,7 @@ fn certify_text<'a, R: Files + Clock + AllocGlobal, W: Sink, E: Sink>(
     errors: &mut E,
 ) -> Result<(), ToolFault<'a>> {
     match made_of(rt, content, errors) {
-        Ok(made) if target == STANDARD => Ok(put_made(&made, output, errors)?),
-        Ok(made) => write_made(rt, target, &made, output),
+        Ok(made) => put_checked(rt, source, target, &made, output, errors),
         Err(fault) => Err(uncertified(rt.alloc(), source, content, fault)),
     }
 }

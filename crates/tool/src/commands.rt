@@ -7,6 +7,7 @@ use crate::expected::test_file;
 use crate::explanations::explain_file;
 use crate::images::{build_image, verify_image};
 use crate::reports::{ToolFault, report};
+use crate::responding::put_responses;
 use crate::runs::{Run, run_file};
 use crate::sources::check_target;
 use crate::systems::{Making, expand_file, make_file};
@@ -74,6 +75,10 @@ fn answer<'a, R: Files + Input + Clock + AllocGlobal, S: AsStr, W: Sink, E: Sink
         } => test_file(rt, system, events, expected, output, errors),
         ToolRequest::Alone { system } => {
             write_alone(rt, system, words.as_slice(), output, errors)?;
+            Ok(DONE)
+        }
+        ToolRequest::Response { system } => {
+            put_responses(rt, system, words.as_slice(), output, errors)?;
             Ok(DONE)
         }
         ToolRequest::Diff { before, after } => diff_files(rt, before, after, output, errors),

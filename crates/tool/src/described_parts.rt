@@ -21,7 +21,7 @@ use verify::{Accepted, verify};
 /// # Errors
 ///
 /// A part is in C, or the system gets no certificates, with the lines that say why; or memory is refused.
-fn text_with_certificates<'a, R: Clock + AllocGlobal, E: Sink>(
+pub(crate) fn text_with_certificates<'a, R: Clock + AllocGlobal, E: Sink>(
     rt: &R,
     system: &SystemText<'a>,
     errors: &mut E,
@@ -38,7 +38,7 @@ fn text_with_certificates<'a, R: Clock + AllocGlobal, E: Sink>(
 }
 
 /// The image of a system from an image or from a text with certificates.
-fn image_with_certificates<'a>(
+pub(crate) fn image_with_certificates<'a>(
     alloc: Global,
     system: &SystemText<'a>,
     text: &str,

@@ -6,6 +6,7 @@ use crate::safe_runs::{NotRun, run_by_names};
 use crate::sources::{SystemText, read_system};
 use crate::systems::image_of;
 use console::{DONE, REFUSED, read_all};
+use response_lines::{NotTold, longest_runs, notes_on_rates};
 use runner::{MemorySink, RunFault};
 use sinks::{Sink, put_all};
 use std::alloc::Global;
@@ -53,18 +54,31 @@ fn traced<'a>(
     }
 }
 
-/// The lines of the first difference between the trace of an image of a system over a list of events and what is expected.
+/// The lines of the first difference between a trace of a system and what is expected.
 fn compared<'a>(
     alloc: Global,
     system: &SystemText<'a>,
-    image: &[u8],
-    list: FileBytes<'a, '_>,
+    trace: &MemorySink,
     expected: FileBytes<'a, '_>,
 ) -> Result<Option<String>, ToolFault<'a>> {
-    let trace = traced(alloc, system, image, list)?;
     match first_difference(alloc, system.text.as_str(), trace.bytes(), expected.bytes) {
         Ok(found) => Ok(found),
         Err(fault) => Err(not_compared(system.name, expected.file, fault)),
+    }
+}
+
+/// Puts how long each level of a system ran on end in a trace of an image of it, beside its bound, where it says how often interrupts come.
+fn put_runs<'a, E: Sink>(
+    alloc: Global,
+    system: &SystemText<'a>,
+    image: &[u8],
+    trace: &MemorySink,
+    errors: &mut E,
+) -> Result<(), ToolFault<'a>> {
+    match longest_runs(alloc, image, system.text.as_str(), trace.bytes()) {
+        Ok(runs) => Ok(put_all(errors, runs.as_bytes())?),
+        Err(NotTold::OutOfMemory) => Err(ToolFault::Memory),
+        Err(_) => Ok(()),
     }
 }
 
@@ -77,9 +91,25 @@ fn put_notes<'a, E: Sink>(
     errors: &mut E,
 ) -> Result<(), ToolFault<'a>> {
     match notes_on_events(alloc, system.text.as_str(), file, list) {
+        Ok(notes) => put_all(errors, notes.as_bytes())?,
+        Err(NotesFault::Refused) => return Ok(()),
+        Err(NotesFault::OutOfMemory) => return Err(ToolFault::Memory),
+    }
+    put_rate_notes(alloc, system, file, list, errors)
+}
+
+/// Puts which interrupts of a list of events come more often than the system says.
+fn put_rate_notes<'a, E: Sink>(
+    alloc: Global,
+    system: &SystemText<'a>,
+    file: &str,
+    list: &[u8],
+    errors: &mut E,
+) -> Result<(), ToolFault<'a>> {
+    match notes_on_rates(alloc, system.text.as_str(), file, list) {
         Ok(notes) => Ok(put_all(errors, notes.as_bytes())?),
-        Err(NotesFault::Refused) => Ok(()),
-        Err(NotesFault::OutOfMemory) => Err(ToolFault::Memory),
+        Err(NotTold::OutOfMemory) => Err(ToolFault::Memory),
+        Err(_) => Ok(()),
     }
 }
 
@@ -98,19 +128,17 @@ pub(crate) fn test_file<'a, R: Files + Input + Clock + AllocGlobal, W: Sink, E: 
     let wanted = read_all(rt, expected)?;
     put_notes(rt.alloc(), &system, events, lines.as_slice(), errors)?;
     let image = image_of(rt, &system, errors)?;
-    let found = compared(
-        rt.alloc(),
-        &system,
-        image.as_slice(),
-        FileBytes {
-            file: events,
-            bytes: lines.as_slice(),
-        },
-        FileBytes {
-            file: expected,
-            bytes: wanted.as_slice(),
-        },
-    )?;
+    let list = FileBytes {
+        file: events,
+        bytes: lines.as_slice(),
+    };
+    let trace = traced(rt.alloc(), &system, image.as_slice(), list)?;
+    let expected = FileBytes {
+        file: expected,
+        bytes: wanted.as_slice(),
+    };
+    let found = compared(rt.alloc(), &system, &trace, expected)?;
+    put_runs(rt.alloc(), &system, image.as_slice(), &trace, errors)?;
     match found {
         Some(lines) => {
             put_all(output, lines.as_bytes())?;

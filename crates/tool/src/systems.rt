@@ -2,9 +2,9 @@
 
 use crate::certificate_files::uncertified;
 use crate::certification::NotCertified;
-use crate::described_parts::groups_of;
 use crate::making::{MadeImage, image_of_text, made};
 use crate::reports::ToolFault;
+use crate::responding::said_of;
 use crate::sources::{SystemText, expanded, read_given};
 use console::{STANDARD, read_stream, write_file};
 use explaining::{Text, wants_certificates};
@@ -163,7 +163,7 @@ pub(crate) fn image_of<'a, R: Clock + AllocGlobal, E: Sink>(
 }
 
 /// Puts an accepted image of the system in a file where it is wanted, which is not touched before the verifier accepts it, with a
-/// line for each thread, the notes, and a line for each group of parts where there are several.
+/// line for each thread, the notes, one for each line that a thread is to deal with soon, and for each group of parts where there are several.
 pub(crate) fn make_file<'a, R: Files + Input + Clock + AllocGlobal, W: Sink, E: Sink>(
     rt: &R,
     system: &'a str,
@@ -178,7 +178,7 @@ pub(crate) fn make_file<'a, R: Files + Input + Clock + AllocGlobal, W: Sink, E: 
     let notes = notes_of(rt.alloc(), &system)?;
     check_notes(rt.alloc(), making, notes.as_str())?;
     let mut said = notes;
-    said.push_str(groups_of(rt.alloc(), &system, made.image.as_slice())?.as_str())?;
+    said.push_str(said_of(rt.alloc(), &system, made.image.as_slice())?.as_str())?;
     if target == STANDARD {
         Ok(put_image(&made, said.as_str(), output, errors)?)
     } else {

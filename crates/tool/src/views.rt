@@ -2,6 +2,7 @@
 
 use crate::budgets::with_found_budgets;
 use crate::reports::ToolFault;
+use crate::responding::answers_of;
 use crate::sources::{SystemText, read_given, read_system};
 use console::{DONE, REFUSED, read_all};
 use differences::{DifferencesFault, differences};
@@ -46,11 +47,14 @@ pub(crate) fn chart_file<'a, R: Files + Input + Clock + AllocGlobal, W: Sink, E:
     let Period { from, to } = period;
     match source {
         Some(source) => {
-            let text = with_found_budgets(rt, read_system(rt, source)?.text, errors)?;
+            let system = read_system(rt, source)?;
+            let answers = answers_of(rt, &system, errors)?;
+            let text = with_found_budgets(rt, system.text, errors)?;
             let request = ChartRequest {
                 text: Some(text.as_str()),
                 from,
                 to,
+                answers: answers.as_slice(),
             };
             Ok(chart(rt.alloc(), trace.as_slice(), &request, output)?)
         }
@@ -59,6 +63,7 @@ pub(crate) fn chart_file<'a, R: Files + Input + Clock + AllocGlobal, W: Sink, E:
                 text: None,
                 from,
                 to,
+                answers: &[],
             };
             Ok(chart(rt.alloc(), trace.as_slice(), &request, output)?)
         }

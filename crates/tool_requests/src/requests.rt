@@ -93,6 +93,10 @@ pub enum ToolRequest<'a> {
     Alone {
         system: &'a str,
     },
+    /// To say how soon a system deals with interrupts.
+    Response {
+        system: &'a str,
+    },
     /// To draw who ran when, by a trace.
     Chart {
         trace: &'a str,
@@ -120,7 +124,7 @@ pub struct Request<'a> {
     pub asked: ToolRequest<'a>,
     /// Numbers for names of a description, each as `NAME=NUMBER`.
     pub given: Vec<&'a str>,
-    /// The names of parts, and last the file that gets them.
+    /// The names of parts, and last the file that gets them; or rates of interrupts, each as `LINE`, `BURST` and `PERIOD`.
     pub words: Vec<&'a str>,
     /// Whether notes are refusals.
     pub is_strict: bool,
@@ -191,8 +195,8 @@ fn request_of<'a>(
     };
     if let Some((name, matches)) = matches.subcommand() {
         request.is_strict = matches!(name, "make" | "expand") && matches.get_flag("strict");
-        if name == "alone" {
-            for word in matches.get_strs("PART .. OUT").unwrap_or(&[]) {
+        if let Some(form) = words_form(name) {
+            for word in matches.get_strs(form).unwrap_or(&[]) {
                 request.words.push(*word)?;
             }
         }
@@ -203,6 +207,15 @@ fn request_of<'a>(
         }
     }
     Ok(request)
+}
+
+/// The form of the words that may follow a system, as many as there are.
+fn words_form(name: &str) -> Option<&'static str> {
+    match name {
+        "alone" => Some("PART .. OUT"),
+        "response" => Some("LINE BURST PERIOD .."),
+        _ => None,
+    }
 }
 
 /// Whether numbers for names may follow a word.
@@ -307,6 +320,9 @@ fn view<'a>(name: &str, matches: &ArgMatches<'a>) -> Option<ToolRequest<'a>> {
             system: matches.get_str("SYSTEM")?,
         }),
         "parts" => Some(ToolRequest::Parts {
+            system: matches.get_str("SYSTEM")?,
+        }),
+        "response" => Some(ToolRequest::Response {
             system: matches.get_str("SYSTEM")?,
         }),
         "chart" => Some(ToolRequest::Chart {

@@ -185,7 +185,7 @@ const IMAGES: [Word<'_>; 3] = [
 ];
 
 /// The words that show something of a system.
-const SHOWING: [Word<'_>; 7] = [
+const SHOWING: [Word<'_>; 8] = [
     Word {
         name: "gdb",
         about: "Debugs a system: speaks gdb's remote serial protocol over standard input and output",
@@ -237,6 +237,20 @@ const SHOWING: [Word<'_>; 7] = [
             form: "SYSTEM",
             help: "the file of a description, a text or an image",
         }],
+    },
+    Word {
+        name: "response",
+        about: "Says for how many instructions on end the parts of each priority and above run at most, and within how many each interrupt is dealt with",
+        arguments: &[
+            Argument {
+                form: "SYSTEM",
+                help: "the file of a description, a text or an image",
+            },
+            Argument {
+                form: "?LINE BURST PERIOD ..",
+                help: "how often interrupts of a line come: at most so many at once, and one more after each so many instructions",
+            },
+        ],
     },
     Word {
         name: "chart",
@@ -303,7 +317,7 @@ fn argument_of<'a>(alloc: Global, form: &'a str) -> Arg<'a> {
         };
     }
     match form.strip_prefix("?") {
-        Some(names) if names.contains(" .. ") => Arg::new(alloc, names)
+        Some(names) if names.contains(" ..") => Arg::new(alloc, names)
             .num_args(0..)
             .action(ArgAction::Append),
         Some(name) => Arg::new(alloc, name),
