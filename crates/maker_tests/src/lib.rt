@@ -20,3 +20,7 @@ mod noted_calls;
 mod parts_alone;
 #[cfg(test)]
 mod runs_by_names;
+#[cfg(test)]
+mod told_responses;
+#[cfg(test)]
+mod worked_lines;

@@ -84,19 +84,6 @@ code
 slot a_slots 1 0 0 boot 0
 ecall
 end
-@ 3: note: `every` and `burst` are not checked: no bound of responses is known yet
-bell b
-part a 1
-waits b line 3 every 5 burst 2
-code
-ecall
-end
-@ 2: note: `within 60` is not checked: no bound of responses is known yet
-part a 1
-within 60
-code
-ecall
-end
 @ 1: note: a -> b by r, and nothing comes back
 bell r
 part a 1

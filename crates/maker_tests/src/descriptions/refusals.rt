@@ -156,6 +156,22 @@ calls d
 part a 1
 pool 12 0
 pool 12 0
+@ 4: line 3 has no `every`: `within` says nothing
+bell b
+part a 1
+waits b line 2 every 5 line 3 burst 2
+within 60
+code
+ecall
+end
+@ 4: part a waits for no interrupt line: `within` says nothing
+bell b
+part a 1
+waits b
+within 60
+code
+ecall
+end
 @ 3: the form of such a line is `waits BELL [line N [every P] [burst B]] ..`
 bell b
 part a 1

@@ -22,7 +22,7 @@ jal x0 ep
 end
 part client 100
 calls ep
-waits tick line 4 line 3
+waits tick line 4 every 400 line 3 burst 2
 sees shared
 budget 9
 reg x8 5
@@ -64,6 +64,8 @@ object ep memory endpoint # d:1
 object tick memory notification # d:3
 irq tick_line4 4 tick 1 # d:18
 irq tick_line3 3 tick 2 # d:18
+#rate 4 1 400 # d:18
+#rate 3 2 # d:18
 cap store_slots 1 ep 2 0 # d:5
 cap client_slots 1 ep 9 1 # d:17
 cap client_slots 2 tick 2 0 # d:18

@@ -1,7 +1,7 @@
 //! What is in charts of traces whose texts are there.
 
 use crate::explanations::pictures::has_all;
-use drawing::{ChartRequest, DrawingFault, chart};
+use drawing::{ChartRequest, DrawingFault, LineAnswer, chart};
 use sinks::MemorySink;
 use std::alloc::Global;
 use std::process::Abort;
@@ -21,6 +21,7 @@ fn drawn(
         text: Some(text),
         from,
         to,
+        answers: &[],
     };
     chart(alloc, trace.as_bytes(), &request, &mut sink)?;
     Ok(sink)
@@ -136,5 +137,36 @@ fn a_text_at_fault_is_told(rt: HostRuntime) -> Result<(), Fail> {
     );
     let fault = put.err();
     assert_eq!(rt; fault, Some(DrawingFault::Malformed { line: 2 }));
+    Ok(())
+}
+
+/// Two interrupts of line 3, and one of a line with which nobody deals.
+const RUNG: &str =
+    "8000c000 00001000 wait\nidle\nirq 3\nidle\n8000c000 00001004 plain\n8000c000 00001000 wait\nirq 5\nirq 3\nidle\n8000c000 00001004 plain\n";
+
+/// The first is dealt with after a step of nobody and two of the thread; the second one not up to the end.
+#[test]
+fn bars_show_how_soon_interrupts_are_dealt_with(rt: HostRuntime) -> Result<(), Fail> {
+    let answers = [LineAnswer {
+        line: 3,
+        thread: 0x8000_c000,
+        steps: 60,
+    }];
+    let mut sink = MemorySink::new(rt.alloc(), 100_000);
+    let request = ChartRequest {
+        text: None,
+        from: None,
+        to: None,
+        answers: &answers,
+    };
+    let is_drawn = chart(rt.alloc(), RUNG.as_bytes(), &request, &mut sink).is_ok();
+    assert!(rt; is_drawn);
+    has_all(
+        &rt,
+        sink.bytes(),
+        &[">3 of 60</text>", "from an interrupt until its part"],
+    );
+    let said = std::str::from_utf8(sink.bytes()).unwrap_or("");
+    assert_eq!(rt; said.matches("height=\"3\" fill=\"#8d3b70\"").count(), 3);
     Ok(())
 }

@@ -20,6 +20,7 @@ const WHOLE: ChartRequest<'_> = ChartRequest {
     text: None,
     from: None,
     to: None,
+    answers: &[],
 };
 
 /// Each piece is in what was put.
