@@ -197,7 +197,7 @@ part_with "crates/microsys_tool/out/microsys_tool crates/microsys/out/microsys r
 part_with crates/microsys/out/microsys "tools/failing/run.sh" tools/failing/run.sh
 part_with crates/microsys_tool/out/microsys_tool "tools/explaining/check.py" tools/explaining/check.py \
     crates/microsys_tool/out/microsys_tool
-for script in bench certify damage integrity kernel_run large_images listing memory parts; do
+for script in bench certify damage integrity kernel_run large_images listing memory parts response; do
     echo "skipped: tools/$script/run.sh: takes minutes, and the built product"
 done
 for script in from_c gdb make_system; do
