@@ -1,12 +1,12 @@
 //! A system as a graph.
 
 use crate::faults::DrawingFault;
-use crate::reaches::reached_in;
 use crate::scenes::{Scene, uses_of};
 use model::{ObjectKind, ObjectType};
 use sinks::{Sink, put_all};
 use source_texts::{Budgets, SourceText, read, without_programs};
 use std::alloc::{AllocError, Global};
+use system_pictures::reached_in;
 
 /// What is at the head of each graph.
 const HEAD: &str =

@@ -10,7 +10,6 @@ mod lane_names;
 mod layouts;
 mod links;
 mod nodes;
-mod reaches;
 mod rights_words;
 mod scenes;
 mod signs;

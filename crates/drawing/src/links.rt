@@ -1,11 +1,11 @@
 //! The edges of a graph: what threads may do with the objects that they hold, and what memory they share.
 
-use crate::reaches::{Reached, index_of};
 use crate::rights_words::{frame_words, mapping_words};
 use crate::scenes::Scene;
 use model::{ObjectKind, ObjectType};
 use source_texts::{CapabilityLine, FrameLine, Source, SourceThread};
 use std::alloc::AllocError;
+use system_pictures::{Reached, index_of};
 
 /// Of the rights of a capability, as the text has them.
 const WRITE: u32 = 1;

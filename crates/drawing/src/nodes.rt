@@ -1,12 +1,12 @@
 //! The nodes of a graph: threads, objects and interrupt lines.
 
 use crate::links::push_ends;
-use crate::reaches::Reached;
 use crate::rights_words::mapping_words;
 use crate::scenes::Scene;
 use model::{ObjectKind, ObjectType};
 use source_texts::{FrameLine, InterruptLine, PromiseLine, Source, SourceThread};
 use std::alloc::AllocError;
+use system_pictures::Reached;
 
 /// How many of a thread's own pages its node names.
 const MOST_PAGES: u32 = 8;

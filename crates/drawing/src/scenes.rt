@@ -1,8 +1,8 @@
 //! A text that is being drawn.
 
-use crate::reaches::Reached;
 use source_texts::{Source, SourceText};
 use std::alloc::{AllocError, Global};
+use system_pictures::Reached;
 
 /// What names an object.
 #[derive(Clone, Copy, Debug)]

@@ -12,7 +12,7 @@ fn is_cnode(text: &SourceText<'_>, number: usize) -> bool {
 
 /// The CNodes that a thread reaches.
 #[derive(Drop)]
-pub(crate) struct Reached {
+pub struct Reached {
     /// Of each object, whether it is one of them.
     marks: Vec<bool>,
     count: usize,
@@ -20,7 +20,7 @@ pub(crate) struct Reached {
 
 impl Reached {
     /// Whether an object is one of them.
-    pub(crate) fn contains(&self, number: usize) -> bool {
+    pub fn contains(&self, number: usize) -> bool {
         match self.marks.get(number) {
             Some(mark) => *mark,
             None => false,
@@ -81,7 +81,11 @@ impl Reached {
 
 /// The CNodes that each thread of a text reaches. It takes a few rounds over the capabilities for each thread, and a mark for
 /// each object.
-pub(crate) fn reached_in(alloc: Global, text: &SourceText<'_>) -> Result<Vec<Reached>, AllocError> {
+///
+/// # Errors
+///
+/// Memory may be refused.
+pub fn reached_in(alloc: Global, text: &SourceText<'_>) -> Result<Vec<Reached>, AllocError> {
     let mut reached = Vec::new(alloc);
     for thread in &text.threads {
         reached.push(Reached::by(alloc, text, thread)?)?;
@@ -90,11 +94,7 @@ pub(crate) fn reached_in(alloc: Global, text: &SourceText<'_>) -> Result<Vec<Rea
 }
 
 /// The index in the root CNode that an address names, where the root's guard and index are the whole address.
-pub(crate) fn index_of(
-    text: &SourceText<'_>,
-    thread: &SourceThread<'_>,
-    address: u32,
-) -> Option<u32> {
+pub fn index_of(text: &SourceText<'_>, thread: &SourceThread<'_>, address: u32) -> Option<u32> {
     let radix = u32::from(text.radix(thread.cnode));
     let guard_size = thread.guard & 31;
     if radix == 0 || radix >= 32 || guard_size.saturating_add(radix) != 32 {
