@@ -10,5 +10,5 @@ mod uses;
 
 pub use groups::Groups;
 pub use names::{NoPart, part_named};
-pub use reports::{alone_report, groups_report, parts_report};
+pub use reports::{alone_report, groups_report, part_groups, parts_report};
 pub use texts::text_alone;

@@ -120,6 +120,20 @@ pub fn groups_report(
     Ok(lines)
 }
 
+/// The groups of the parts of an accepted image, in the order of their first threads.
+///
+/// # Errors
+///
+/// Memory may be refused.
+pub fn part_groups(
+    alloc: Global,
+    text: &SourceText<'_>,
+    parts: &Parts<'_, '_>,
+) -> Result<Groups, AllocError> {
+    let arrows = arrows_of(alloc, text.objects.len(), text.threads.len(), parts)?;
+    groups_of(alloc, text.threads.len(), &arrows)
+}
+
 /// What is said of a part whose image alone is accepted, as `alone` of `parts` promises of it.
 fn promise_of(parts: &Parts<'_, '_>, threads: u64) -> &'static str {
     if !parts.takes_nothing(threads) {

@@ -140,6 +140,6 @@ pub fn says_rates(content: &str) -> bool {
 /// # Errors
 ///
 /// A line asks something in another form, or memory is refused.
-pub(crate) fn rates_in(alloc: Global, content: &str) -> Result<Vec<Rate>, NotTold> {
+pub fn rates_in(alloc: Global, content: &str) -> Result<Vec<Rate>, NotTold> {
     Ok(asked_in(alloc, content)?.rates)
 }

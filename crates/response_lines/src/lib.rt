@@ -14,7 +14,7 @@ mod telling;
 mod wanted;
 
 pub use answers::{Answer, answers_in};
-pub use asked::{asks_responses, says_rates};
+pub use asked::{asks_responses, rates_in, says_rates};
 pub use broken_rates::notes_on_rates;
 pub use faults::NotTold;
 pub use keeping::{Kept, KeptWithin, keep};
