@@ -49,11 +49,12 @@ SYSTEMS = {
     "parts": ((0,), 1, 1),
     "response": ((0,), 1, 193),
     "alone": ((0,), 1, 66),
+    "report": ((0,), 2, 1000),
 }
-# The words whose last file is written.
-WRITERS = {"make", "expand", "certify", "alone"}
+# The words whose last file is written, and the one whose second file is.
+WRITERS, REPORT = {"make", "expand", "certify", "alone"}, "report"
 # The words that have one more after them.
-OPTIONS = {"--from", "--to", "--bytes-of", "--info", "--part", "-D"}
+OPTIONS = {"--from", "--to", "--bytes-of", "--info", "--part", "--rate", "-D"}
 # What asks `make` for symbols; the file that gets them follows.
 SYMBOLS = "--symbols"
 STANDARD = "-"
@@ -297,7 +298,7 @@ def report_failed(word: str, words: list[str], texts: dict[int, Text], room: Pat
 
 def check_target(word: str, target: str, sources: list[Source]) -> None:
     """What is written is to take the place of no source."""
-    if word not in WRITERS or target == STANDARD or not Path(target).exists():
+    if word not in {*WRITERS, REPORT} or target == STANDARD or not Path(target).exists():
         return
     read_files = [path for it in sources for path in it.files()]
     if any(path.is_file() and path.samefile(target) for path in read_files) or Path(target).suffix in SUFFIXES:
@@ -353,7 +354,7 @@ def carry_out(word: str, words: list[str], sources: dict[int, Source], symbols: 
     the compiler, too, and those of names that begin with a capital letter for it alone."""
     given, words = given_in(words)
     machine_code.FLAGS = (*machine_code.FLAGS, *(f"-D{it}" for it in given))
-    target = words[places_of(words)[-1]]
+    target = words[places_of(words)[1 if word == REPORT else -1]]
     check_target(word, target, list(sources.values()))
     with tempfile.TemporaryDirectory(prefix="microsys.") as room_name:
         room = Path(room_name)

@@ -19,6 +19,8 @@ mod noted_calls;
 #[cfg(test)]
 mod parts_alone;
 #[cfg(test)]
+mod reported;
+#[cfg(test)]
 mod runs_by_names;
 #[cfg(test)]
 mod told_responses;

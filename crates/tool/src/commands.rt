@@ -6,6 +6,8 @@ use crate::described_parts::{put_parts, write_alone};
 use crate::expected::test_file;
 use crate::explanations::explain_file;
 use crate::images::{build_image, verify_image};
+use crate::report_changes::{are_reports, diff_reports};
+use crate::report_files::{ReportWords, report_file};
 use crate::reports::{ToolFault, report};
 use crate::responding::put_responses;
 use crate::runs::{Run, run_file};
@@ -56,6 +58,7 @@ fn answer<'a, R: Files + Input + Clock + AllocGlobal, S: AsStr, W: Sink, E: Sink
         asked,
         given,
         words,
+        rates,
         is_strict,
     } = parse_words(rt.alloc(), words)?;
     let making = Making {
@@ -81,6 +84,24 @@ fn answer<'a, R: Files + Input + Clock + AllocGlobal, S: AsStr, W: Sink, E: Sink
             put_responses(rt, system, words.as_slice(), output, errors)?;
             Ok(DONE)
         }
+        ToolRequest::Report {
+            system,
+            out,
+            is_json,
+        } => {
+            let asked = ReportWords {
+                system,
+                out,
+                is_json,
+                events: words.as_slice(),
+                rates: rates.as_slice(),
+                given: making.given,
+            };
+            report_file(rt, &asked, output, errors)
+        }
+        ToolRequest::Diff { before, after } if are_reports(before, after) => {
+            diff_reports(rt, before, after, output)
+        }
         ToolRequest::Diff { before, after } => diff_files(rt, before, after, output, errors),
         request => {
             write_answer(rt, request, making, output, errors)?;
@@ -89,7 +110,7 @@ fn answer<'a, R: Files + Input + Clock + AllocGlobal, S: AsStr, W: Sink, E: Sink
     }
 }
 
-/// Carries out a request to write or to show something of a system, up to its failure.
+/// Carries out a request to write something of a system, or else to run or to show one, up to its failure.
 fn write_answer<'a, R: Files + Input + Clock + AllocGlobal, W: Sink, E: Sink>(
     rt: &R,
     request: ToolRequest<'a>,
@@ -110,15 +131,19 @@ fn write_answer<'a, R: Files + Input + Clock + AllocGlobal, W: Sink, E: Sink>(
         ToolRequest::Explain { system } => {
             explain_file(rt, system, making.given, output, errors)
         }
-        ToolRequest::Draw { system } => draw_file(rt, system, making.given, output, errors),
-        ToolRequest::Parts { system } => put_parts(rt, system, output, errors),
-        ToolRequest::Chart {
-            trace,
-            system,
-            from,
-            to,
-        } => chart_file(rt, trace, system, Period { from, to }, output, errors),
-        ToolRequest::List { image } => list_file(rt, image, output),
+        request => run_answer(rt, request, making, output, errors),
+    }
+}
+
+/// Carries out a request to run a system, or else to show one, up to its failure.
+fn run_answer<'a, R: Files + Input + Clock + AllocGlobal, W: Sink, E: Sink>(
+    rt: &R,
+    request: ToolRequest<'a>,
+    making: Making<'_>,
+    output: &mut W,
+    errors: &mut E,
+) -> Result<(), ToolFault<'a>> {
+    match request {
         ToolRequest::Debug {
             system,
             events,
@@ -147,6 +172,30 @@ fn write_answer<'a, R: Files + Input + Clock + AllocGlobal, W: Sink, E: Sink>(
             };
             run_file(rt, run, output, errors)
         }
+        request => show_answer(rt, request, making, output, errors),
+    }
+}
+
+/// Carries out a request to show something of a system, up to its failure.
+fn show_answer<'a, R: Files + Input + Clock + AllocGlobal, W: Sink, E: Sink>(
+    rt: &R,
+    request: ToolRequest<'a>,
+    making: Making<'_>,
+    output: &mut W,
+    errors: &mut E,
+) -> Result<(), ToolFault<'a>> {
+    match request {
+        ToolRequest::Draw { system, is_svg } => {
+            draw_file(rt, system, is_svg, making.given, output, errors)
+        }
+        ToolRequest::Parts { system } => put_parts(rt, system, output, errors),
+        ToolRequest::Chart {
+            trace,
+            system,
+            from,
+            to,
+        } => chart_file(rt, trace, system, Period { from, to }, output, errors),
+        ToolRequest::List { image } => list_file(rt, image, output),
         _ => Ok(()),
     }
 }

@@ -16,12 +16,30 @@ use std::rt::Files;
 use std::time::Clock;
 use verify::{Accepted, verify};
 
-/// The text of a system with its certificates, which are found where it wants some.
+/// A system with its certificates: its text and its image.
+#[derive(Drop)]
+pub(crate) struct Whole {
+    pub(crate) text: String,
+    pub(crate) image: Vec<u8>,
+}
+
+/// The text and the image of a system with its certificates, which are found where it wants some.
 ///
 /// # Errors
 ///
 /// A part is in C, or the system gets no certificates, with the lines that say why; or memory is refused.
-pub(crate) fn text_with_certificates<'a, R: Clock + AllocGlobal, E: Sink>(
+pub(crate) fn whole_of<'a, R: Clock + AllocGlobal, E: Sink>(
+    rt: &R,
+    system: &SystemText<'a>,
+    errors: &mut E,
+) -> Result<Whole, ToolFault<'a>> {
+    let text = text_with_certificates(rt, system, errors)?;
+    let image = image_with_certificates(rt.alloc(), system, text.as_str())?;
+    Ok(Whole { text, image })
+}
+
+/// The text of a system with its certificates.
+fn text_with_certificates<'a, R: Clock + AllocGlobal, E: Sink>(
     rt: &R,
     system: &SystemText<'a>,
     errors: &mut E,
@@ -38,7 +56,7 @@ pub(crate) fn text_with_certificates<'a, R: Clock + AllocGlobal, E: Sink>(
 }
 
 /// The image of a system from an image or from a text with certificates.
-pub(crate) fn image_with_certificates<'a>(
+fn image_with_certificates<'a>(
     alloc: Global,
     system: &SystemText<'a>,
     text: &str,
@@ -93,8 +111,7 @@ pub(crate) fn put_parts<'a, R: Files + Input + Clock + AllocGlobal, W: Sink, E: 
     errors: &mut E,
 ) -> Result<(), ToolFault<'a>> {
     let system = read_system(rt, source)?;
-    let text = text_with_certificates(rt, &system, errors)?;
-    let image = image_with_certificates(rt.alloc(), &system, text.as_str())?;
+    let Whole { text, image } = whole_of(rt, &system, errors)?;
     let accepted = accepted(rt.alloc(), image.as_slice())?;
     let parts = parts_in(rt.alloc(), &accepted)?;
     let names = declared(rt.alloc(), system.name, text.as_str())?;
@@ -229,8 +246,7 @@ pub(crate) fn write_alone<'a, R: Files + Input + Clock + AllocGlobal, W: Sink, E
 ) -> Result<(), ToolFault<'a>> {
     let (named, target) = names_and_file(words);
     let system = read_system(rt, source)?;
-    let text = text_with_certificates(rt, &system, errors)?;
-    let image = image_with_certificates(rt.alloc(), &system, text.as_str())?;
+    let Whole { text, image } = whole_of(rt, &system, errors)?;
     let written = alone_in(rt.alloc(), &system, text.as_str(), image.as_slice(), named)?;
     let target = target.unwrap_or(STANDARD);
     if target == STANDARD {

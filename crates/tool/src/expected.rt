@@ -20,9 +20,9 @@ const ROOM: usize = 100_000_000;
 
 /// A file and its bytes: a list of events, or what is expected.
 #[derive(Clone, Copy)]
-struct FileBytes<'a, 'l> {
-    file: &'a str,
-    bytes: &'l [u8],
+pub(crate) struct FileBytes<'a, 'l> {
+    pub(crate) file: &'a str,
+    pub(crate) bytes: &'l [u8],
 }
 
 /// Why the trace of a system of this name was not compared with what is expected in a file.
@@ -39,7 +39,7 @@ fn not_compared<'a>(name: &'a str, expected: &'a str, fault: TraceFault) -> Tool
 }
 
 /// The trace of an image of a system over the events in a file.
-fn traced<'a>(
+pub(crate) fn traced<'a>(
     alloc: Global,
     system: &SystemText<'a>,
     image: &[u8],
@@ -67,16 +67,13 @@ fn compared<'a>(
     }
 }
 
-/// Puts how long each level of a system ran on end in a trace of an image of it, beside its bound, where it says how often interrupts come.
-fn put_runs<'a, E: Sink>(
-    alloc: Global,
-    system: &SystemText<'a>,
-    image: &[u8],
-    trace: &MemorySink,
+/// Puts what is told, if anything can be.
+fn put_told<'a, E: Sink>(
+    told: Result<String, NotTold>,
     errors: &mut E,
 ) -> Result<(), ToolFault<'a>> {
-    match longest_runs(alloc, image, system.text.as_str(), trace.bytes()) {
-        Ok(runs) => Ok(put_all(errors, runs.as_bytes())?),
+    match told {
+        Ok(lines) => Ok(put_all(errors, lines.as_bytes())?),
         Err(NotTold::OutOfMemory) => Err(ToolFault::Memory),
         Err(_) => Ok(()),
     }
@@ -95,22 +92,11 @@ fn put_notes<'a, E: Sink>(
         Err(NotesFault::Refused) => return Ok(()),
         Err(NotesFault::OutOfMemory) => return Err(ToolFault::Memory),
     }
-    put_rate_notes(alloc, system, file, list, errors)
-}
-
-/// Puts which interrupts of a list of events come more often than the system says.
-fn put_rate_notes<'a, E: Sink>(
-    alloc: Global,
-    system: &SystemText<'a>,
-    file: &str,
-    list: &[u8],
-    errors: &mut E,
-) -> Result<(), ToolFault<'a>> {
-    match notes_on_rates(alloc, system.text.as_str(), file, list) {
-        Ok(notes) => Ok(put_all(errors, notes.as_bytes())?),
-        Err(NotTold::OutOfMemory) => Err(ToolFault::Memory),
-        Err(_) => Ok(()),
-    }
+    // Which interrupts come more often than the system says.
+    put_told(
+        notes_on_rates(alloc, system.text.as_str(), file, list),
+        errors,
+    )
 }
 
 /// Runs the system in a file over the events of another, puts the first difference from what is expected, and returns the exit
@@ -138,7 +124,14 @@ pub(crate) fn test_file<'a, R: Files + Input + Clock + AllocGlobal, W: Sink, E: 
         bytes: wanted.as_slice(),
     };
     let found = compared(rt.alloc(), &system, &trace, expected)?;
-    put_runs(rt.alloc(), &system, image.as_slice(), &trace, errors)?;
+    // How long each level ran on end, beside its bound.
+    let runs = longest_runs(
+        rt.alloc(),
+        image.as_slice(),
+        system.text.as_str(),
+        trace.bytes(),
+    );
+    put_told(runs, errors)?;
     match found {
         Some(lines) => {
             put_all(output, lines.as_bytes())?;

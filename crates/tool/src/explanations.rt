@@ -12,7 +12,7 @@ use std::time::Clock;
 
 /// What a text turned out to be.
 #[derive(Drop)]
-enum Verdict {
+pub(crate) enum Verdict {
     /// It is accepted, with these budgets where certificates were found for it.
     Accepted(String),
     /// It is refused, and these lines say why.
@@ -51,7 +51,7 @@ fn explained_as_found<R: Clock + AllocGlobal, E: Sink>(
 }
 
 /// Explains a text, with the certificates that are found for it where it wants some.
-fn explained<R: Clock + AllocGlobal, E: Sink>(
+pub(crate) fn explained<R: Clock + AllocGlobal, E: Sink>(
     rt: &R,
     text: &Text<'_, '_>,
     errors: &mut E,

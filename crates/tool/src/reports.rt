@@ -9,6 +9,7 @@ use model::{BootFault, Refusal};
 use runner::{boot_line, outside_line, refusal_line};
 use sinks::{Sink, SinkFault, put_all};
 use std::alloc::{AllocError, Global};
+use system_pictures::PictureFault;
 use tool_requests::NoRequest;
 
 /// Why a request was not carried out.
@@ -103,6 +104,15 @@ impl From<DrawingFault> for ToolFault<'_> {
             DrawingFault::Malformed { line } => ToolFault::Malformed(line),
             DrawingFault::Output => ToolFault::Output,
             DrawingFault::OutOfMemory => ToolFault::Memory,
+        }
+    }
+}
+
+impl From<PictureFault> for ToolFault<'_> {
+    fn from(fault: PictureFault) -> Self {
+        match fault {
+            PictureFault::Malformed { line } => ToolFault::Malformed(line),
+            PictureFault::OutOfMemory => ToolFault::Memory,
         }
     }
 }

@@ -1,12 +1,15 @@
 //! How soon systems deal with interrupts, and what is asked of that where they are made.
 
 use crate::certificate_files::uncertified;
-use crate::described_parts::{groups_of, image_with_certificates, text_with_certificates};
+use crate::described_parts::{Whole, groups_of, whole_of};
 use crate::making::image_of_text;
 use crate::reports::{ToolFault, reported_name};
 use crate::sources::{SystemText, read_system};
 use drawing::LineAnswer;
-use response_lines::{Answer, NotTold, answers_in, asks_responses, keep, says_rates, tell};
+use response_lines::{
+    Answer, NotTold, answers_in, asks_responses, keep, rates_in, says_rates, tell,
+};
+use responses::Rate;
 use sinks::{Sink, put_all};
 use std::alloc::{AllocError, Global};
 use std::rt::Files;
@@ -32,8 +35,7 @@ pub(crate) fn put_responses<'a, R: Files + Input + Clock + AllocGlobal, W: Sink,
     errors: &mut E,
 ) -> Result<(), ToolFault<'a>> {
     let system = read_system(rt, source)?;
-    let text = text_with_certificates(rt, &system, errors)?;
-    let image = image_with_certificates(rt.alloc(), &system, text.as_str())?;
+    let Whole { text, image } = whole_of(rt, &system, errors)?;
     match tell(rt.alloc(), image.as_slice(), text.as_str(), words) {
         Ok(told) => Ok(put_all(output, told.lines.as_bytes())?),
         Err(fault) => Err(untold(system.name, fault)),
@@ -100,6 +102,53 @@ pub(crate) fn check_text<'a>(
     }
 }
 
+/// What is said of parts that deal with interrupts as soon as they are asked to, and of others.
+#[derive(Drop)]
+pub(crate) struct WithinSaid {
+    pub(crate) kept: String,
+    pub(crate) broken: String,
+}
+
+/// What is said of the image of a text whose parts are asked to deal with interrupts so soon.
+///
+/// # Errors
+///
+/// A line asks in another form, or memory is refused.
+pub(crate) fn within_of<'a>(
+    alloc: Global,
+    file: &'a str,
+    text: &str,
+    image: &[u8],
+) -> Result<WithinSaid, ToolFault<'a>> {
+    match kept_lines(alloc, file, text, image) {
+        Ok(kept) => Ok(WithinSaid {
+            kept,
+            broken: String::new(alloc),
+        }),
+        Err(ToolFault::Refused(broken)) => Ok(WithinSaid {
+            kept: String::new(alloc),
+            broken,
+        }),
+        Err(fault) => Err(fault),
+    }
+}
+
+/// How often interrupts come, as a text says.
+///
+/// # Errors
+///
+/// A line says it in another form, or memory is refused.
+pub(crate) fn rates_of_text<'a>(
+    alloc: Global,
+    file: &'a str,
+    text: &str,
+) -> Result<Vec<Rate>, ToolFault<'a>> {
+    match rates_in(alloc, text) {
+        Ok(rates) => Ok(rates),
+        Err(fault) => Err(untold(file, fault)),
+    }
+}
+
 /// What a chart shows of threads that deal with interrupts.
 fn line_answers(alloc: Global, answers: &[Answer]) -> Result<Vec<LineAnswer>, AllocError> {
     let mut shown = Vec::new(alloc);
@@ -141,8 +190,7 @@ fn answered<'a, R: Clock + AllocGlobal, E: Sink>(
     system: &SystemText<'a>,
     errors: &mut E,
 ) -> Result<Vec<LineAnswer>, ToolFault<'a>> {
-    let text = text_with_certificates(rt, system, errors)?;
-    let image = image_with_certificates(rt.alloc(), system, text.as_str())?;
+    let Whole { text, image } = whole_of(rt, system, errors)?;
     match answers_in(rt.alloc(), image.as_slice(), text.as_str()) {
         Ok(answers) => Ok(line_answers(rt.alloc(), answers.as_slice())?),
         Err(fault) => Err(untold(system.name, fault)),

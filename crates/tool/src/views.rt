@@ -12,6 +12,7 @@ use sinks::{Sink, put_all};
 use std::alloc::Global;
 use std::rt::Files;
 use std::time::Clock;
+use system_pictures::picture;
 
 /// The events that are drawn.
 #[derive(Clone, Copy)]
@@ -22,16 +23,22 @@ pub(crate) struct Period {
     pub(crate) to: Option<u64>,
 }
 
-/// Draws the system in a file.
+/// Draws the system in a file, as SVG or for Graphviz.
 pub(crate) fn draw_file<'a, R: Files + Input + Clock + AllocGlobal, W: Sink, E: Sink>(
     rt: &R,
     source: &'a str,
+    is_svg: bool,
     given: &[&str],
     output: &mut W,
     errors: &mut E,
 ) -> Result<(), ToolFault<'a>> {
     let text = with_found_budgets(rt, read_given(rt, source, given)?.text, errors)?;
-    Ok(draw(rt.alloc(), text.as_str(), output)?)
+    if is_svg {
+        let svg = picture(rt.alloc(), text.as_str())?;
+        Ok(put_all(output, svg.as_bytes())?)
+    } else {
+        Ok(draw(rt.alloc(), text.as_str(), output)?)
+    }
 }
 
 /// Draws the trace in a file, with the names and lines of the system that ran if that is given.

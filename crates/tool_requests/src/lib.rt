@@ -5,3 +5,4 @@ mod requests;
 mod words;
 
 pub use requests::{NoRequest, Request, Shown, ToolRequest, parse_words};
+pub use words::VERSION;

@@ -84,6 +84,16 @@ pub enum ToolRequest<'a> {
     /// To draw a system.
     Draw {
         system: &'a str,
+        /// Whether as SVG, and not for Graphviz.
+        is_svg: bool,
+    },
+    /// To write a report on a system.
+    Report {
+        system: &'a str,
+        /// The file that gets the report.
+        out: &'a str,
+        /// Whether as data, and not as a page.
+        is_json: bool,
     },
     /// To say which parts of a system may change what others take.
     Parts {
@@ -124,8 +134,10 @@ pub struct Request<'a> {
     pub asked: ToolRequest<'a>,
     /// Numbers for names of a description, each as `NAME=NUMBER`.
     pub given: Vec<&'a str>,
-    /// The names of parts, and last the file that gets them; or rates of interrupts, each as `LINE`, `BURST` and `PERIOD`.
+    /// The names of parts, and last the file that gets them; or rates of interrupts, each as `LINE`, `BURST` and `PERIOD`; or lists of events.
     pub words: Vec<&'a str>,
+    /// How often interrupts come, each as `LINE:BURST:PERIOD`.
+    pub rates: Vec<&'a str>,
     /// Whether notes are refusals.
     pub is_strict: bool,
 }
@@ -191,14 +203,16 @@ fn request_of<'a>(
         asked,
         given: Vec::new(alloc),
         words: Vec::new(alloc),
+        rates: Vec::new(alloc),
         is_strict: false,
     };
     if let Some((name, matches)) = matches.subcommand() {
         request.is_strict = matches!(name, "make" | "expand") && matches.get_flag("strict");
         if let Some(form) = words_form(name) {
-            for word in matches.get_strs(form).unwrap_or(&[]) {
-                request.words.push(*word)?;
-            }
+            push_words(&mut request.words, matches, form)?;
+        }
+        if name == "report" {
+            push_words(&mut request.rates, matches, "rate")?;
         }
         if takes_numbers(name) {
             for word in matches.get_strs("D").unwrap_or(&[]) {
@@ -213,14 +227,27 @@ fn request_of<'a>(
 fn words_form(name: &str) -> Option<&'static str> {
     match name {
         "alone" => Some("PART .. OUT"),
+        "report" => Some("EVENTS .."),
         "response" => Some("LINE BURST PERIOD .."),
         _ => None,
     }
 }
 
+/// Puts the words of an argument.
+fn push_words<'a>(
+    to: &mut Vec<&'a str>,
+    matches: &ArgMatches<'a>,
+    argument: &str,
+) -> Result<(), AllocError> {
+    for word in matches.get_strs(argument).unwrap_or(&[]) {
+        to.push(*word)?;
+    }
+    Ok(())
+}
+
 /// Whether numbers for names may follow a word.
 fn takes_numbers(name: &str) -> bool {
-    matches!(name, "make" | "expand" | "explain" | "draw")
+    matches!(name, "make" | "expand" | "explain" | "draw" | "report")
 }
 
 /// A word of the form `NAME=NUMBER`.
@@ -318,6 +345,12 @@ fn view<'a>(name: &str, matches: &ArgMatches<'a>) -> Option<ToolRequest<'a>> {
         }),
         "draw" => Some(ToolRequest::Draw {
             system: matches.get_str("SYSTEM")?,
+            is_svg: matches.get_flag("svg"),
+        }),
+        "report" => Some(ToolRequest::Report {
+            system: matches.get_str("SYSTEM")?,
+            out: matches.get_str("OUT")?,
+            is_json: matches.get_flag("json"),
         }),
         "parts" => Some(ToolRequest::Parts {
             system: matches.get_str("SYSTEM")?,

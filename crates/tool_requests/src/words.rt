@@ -3,8 +3,8 @@
 use clap::{Arg, ArgAction, Command};
 use std::alloc::{AllocError, Global};
 
-/// The version of the program, those of the images that it reads, and the kit that proves it.
-const VERSION: &str =
+/// The version of the program, those of the images that it reads, and the kit that proves it, a line for each.
+pub const VERSION: &str =
     "0.1.0\nimages of versions 1 to 4\nproved with rattle-kit-13f logic dac8208d650f15bf";
 
 /// What is said after all words.
@@ -15,8 +15,8 @@ const STATUSES: &str =
 const EVENTS: &str =
     "lines `step [N]`, `tick`, `irq LINE`, `write PAGE INDEX WORD` and `read PAGE INDEX`, by names or numbers; of `run` each line of standard input is answered before the next is read";
 
-/// What follows a word: `NAME` is a file, `?NAME` one that may be left out, `?NAME .. NAME` any number of words, `--NAME` a word that may be there, `--NAME N` such a
-/// word with a number, and `-D WORD` one that may be there again and again.
+/// What follows a word: `NAME` is a file, `?NAME` one that may be left out, `?NAME .. NAME` and `?NAME ..` any number of words, `--NAME` a word that may be there,
+/// `--NAME N` such a word with a number, and `-D WORD` and `--NAME WORD ..` ones that may be there again and again.
 #[derive(Clone, Copy)]
 struct Argument<'a> {
     form: &'a str,
@@ -227,6 +227,10 @@ const SHOWING: [Word<'_>; 8] = [
                 form: "SYSTEM",
                 help: "the file of a description, a text or an image",
             },
+            Argument {
+                form: "--svg",
+                help: "draws it as SVG, which needs no other program",
+            },
             GIVEN,
         ],
     },
@@ -298,6 +302,35 @@ const SHOWING: [Word<'_>; 8] = [
     },
 ];
 
+/// The word that writes a report.
+const REPORTING: [Word<'_>; 1] = [Word {
+    name: "report",
+    about: "Writes a page on a system for who has to sign: what holds of this file, by which clause, and what tests showed",
+    arguments: &[
+        Argument {
+            form: "SYSTEM",
+            help: "the file of a description, a text or an image",
+        },
+        Argument {
+            form: "OUT",
+            help: "the file that gets the page",
+        },
+        Argument {
+            form: "?EVENTS ..",
+            help: "lists of events that are run, for what tests showed",
+        },
+        Argument {
+            form: "--json",
+            help: "writes the same as data",
+        },
+        Argument {
+            form: "--rate RATE ..",
+            help: "how often interrupts of a line come, as LINE:BURST:PERIOD, for bounds on responses",
+        },
+        GIVEN,
+    ],
+}];
+
 /// An argument of this form.
 fn argument_of<'a>(alloc: Global, form: &'a str) -> Arg<'a> {
     if let Some(value) = form.strip_prefix("-D ") {
@@ -312,7 +345,13 @@ fn argument_of<'a>(alloc: Global, form: &'a str) -> Arg<'a> {
                 .long(name)
                 .value_name("N")
                 .value_parser(clap::value_parser!(u64)),
-            Some((name, value)) => Arg::new(alloc, name).long(name).value_name(value),
+            Some((name, value)) => match value.strip_suffix(" ..") {
+                Some(value) => Arg::new(alloc, name)
+                    .long(name)
+                    .value_name(value)
+                    .action(ArgAction::Append),
+                None => Arg::new(alloc, name).long(name).value_name(value),
+            },
             None => Arg::new(alloc, flag).long(flag).action(ArgAction::SetTrue),
         };
     }
@@ -357,5 +396,6 @@ pub(crate) fn program<'a>(alloc: Global) -> Result<Command<'a>, AllocError> {
         .subcommand_required(true);
     let program = with_words(alloc, program, &MAKING)?;
     let program = with_words(alloc, program, &IMAGES)?;
-    with_words(alloc, program, &SHOWING)
+    let program = with_words(alloc, program, &SHOWING)?;
+    with_words(alloc, program, &REPORTING)
 }
