@@ -165,6 +165,7 @@ part_with python3 "tools/checks/texts.py --premises" tools/checks/texts.py --pre
 part_with python3 "tools/checks/proved_table.py" tools/checks/proved_table.py --check
 part_with python3 "tools/checks/proof_tree.py" tools/checks/proof_tree.py --check
 part_with python3 "tools/checks/tool_words.py" tools/checks/tool_words.py --check
+part_with python3 "tools/checks/links.py" tools/checks/links.py
 part_with python3 "tools/manual_rows.py" same_calls
 part_with python3 "tools/traces/reckon.py" python3 tools/traces/reckon.py compare samples/{bell,solo,worker,client_server,promise,buffers} \
     samples/gallery/controller
@@ -197,7 +198,7 @@ part_with "crates/microsys_tool/out/microsys_tool crates/microsys/out/microsys r
 part_with crates/microsys/out/microsys "tools/failing/run.sh" tools/failing/run.sh
 part_with crates/microsys_tool/out/microsys_tool "tools/explaining/check.py" tools/explaining/check.py \
     crates/microsys_tool/out/microsys_tool
-for script in bench certify damage integrity kernel_run large_images listing memory parts response; do
+for script in bench certify damage integrity kernel_run large_images listing memory parts report response; do
     echo "skipped: tools/$script/run.sh: takes minutes, and the built product"
 done
 for script in from_c gdb make_system; do

@@ -16,10 +16,10 @@ from pathlib import Path
 ROOT = Path(__file__).resolve().parents[2]
 SOURCE = ROOT / "crates/tool_requests/src/words.rt"
 BASH, ZSH = ROOT / "tools/completions/microsys_tool", ROOT / "tools/completions/_microsys_tool"
-PAGE, MANUAL = ROOT / "docs/man/microsys_tool.1", ROOT / "docs/MANUAL.md"
+PAGE, MANUAL, GUIDE = ROOT / "docs/man/microsys_tool.1", ROOT / "docs/MANUAL.md", ROOT / "docs/GUIDE.md"
 SCRIPT, STARTER = ROOT / "tools/make_system/make_system.py", ROOT / "tools/make_system/microsys_tool"
 BEGIN, END = "<!-- made by tools/checks/tool_words.py --write -->\n", "<!-- end of what is made -->\n"
-# The section of the manual on a word.
+# The section on a word, of the guide or of the manual.
 SECTIONS = {
     "make": "A system in a page",
     "expand": "A system in a page",
@@ -36,6 +36,7 @@ SECTIONS = {
     "parts": "Parts",
     "response": "How soon",
     "alone": "Parts",
+    "report": "A page for who signs",
 }
 # Arguments that are systems, whose parts may be in C.
 SYSTEMS = {"SYSTEM", "DESCRIPTION", "SOURCE", "BEFORE", "AFTER"}
@@ -120,7 +121,7 @@ def words():
     argument = r"Argument(?:<'_>)? ?(?:= Argument )?\{\s*form: (\"[^\"]*\"|\w+),\s*help: (\"[^\"]*\"|\w+),\s*\}"
     shared = {name: Argument(said(form), said(help)) for name, form, help in re.findall(rf"^const (\w+): {argument};", text, re.M)}
     found = []
-    for name, about, rest in re.findall(r'Word \{\s*name: "(\w+)",\s*about: "([^"]*)",\s*arguments: &\[(.*?)\],\s*\},\n', text, re.S):
+    for name, about, rest in re.findall(r'Word \{\s*name: "(\w+)",\s*about: "([^"]*)",\s*arguments: &\[(.*?)\],\s*\}(?:,\n|\];)', text, re.S):
         arguments = []
         for form, help, constant in re.findall(rf"{argument}|\b([A-Z_]+),?\s*$", rest, re.M):
             arguments.append(shared[constant] if constant else Argument(said(form), said(help)))
@@ -185,7 +186,7 @@ def zsh(all_words):
     for name, options in options_of(all_words).items():
         specs = []
         for it in options:
-            again = "*" if it.flag == "-D" else ""
+            again = "*" if it.flag == "-D" or it.value.endswith(" ..") else ""
             value = f":{plain(it.value).lower()}:" if it.value else ""
             specs.append(f"'{again}{it.flag}[{plain(it.help)}]{value}'")
         if specs:
@@ -216,13 +217,21 @@ def zsh(all_words):
     )
 
 
+def link_to(section):
+    """The link from the manual to a section of it or of the guide, which fails where neither has it."""
+    heading = f"\n## {section}\n"
+    places = [name for name, page in (("", MANUAL), (GUIDE.name, GUIDE)) if heading in page.read_text(encoding="utf-8")]
+    if not places:
+        sys.exit(f"{section}: no section of the guide or of the manual")
+    return places[0] + "#" + re.sub(r"[^a-z0-9 -]", "", section.lower()).replace(" ", "-")
+
+
 def table(all_words):
     """The table of the manual."""
     rows = ["| words | what they do |", "|---|---|"]
     for it in all_words:
         section = SECTIONS.get(it.name, "")
-        link = re.sub(r"[^a-z0-9 -]", "", section.lower()).replace(" ", "-")
-        rows.append(f"| `{it.usage}` | {begun(it.about)}{f' ([{section}](#{link}))' if section else ''} |")
+        rows.append(f"| `{it.usage}` | {begun(it.about)}{f' ([{section}]({link_to(section)}))' if section else ''} |")
     last = "| `help [WORD]`, `WORD --help`, `--version` | how each word is used; the versions of the program, of images, and of the kit |"
     return "\n".join([*rows, last]) + "\n"
 
