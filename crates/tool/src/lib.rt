@@ -27,7 +27,7 @@ mod views;
 pub use certification::{CertifiedText, NotCertified, Why, certified};
 pub use commands::{command, command_line};
 pub use making::{MadeImage, made};
-pub use report_files::{Reported, reported};
+pub use report_files::{WrittenReport, reported};
 pub use response_lines::{Kept, KeptWithin, NotTold, Told, keep, tell};
 pub use safe_runs::{NotRun, live_by_names, run_by_names};
 pub use sinks::{MemorySink, Sink, SinkFault, WriterSink};

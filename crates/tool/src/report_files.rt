@@ -45,7 +45,7 @@ pub(crate) struct ReportWords<'w, 'a> {
 
 /// A report on an image: the page or the data, and the bytes that it speaks of.
 #[derive(Drop)]
-pub struct Reported {
+pub struct WrittenReport {
     pub written: String,
     /// The digits of the SHA-256 of the image, as the report has them.
     pub sha256: String,
@@ -62,7 +62,7 @@ pub fn reported(
     image: Vec<u8>,
     request: &ReportRequest<'_>,
     is_json: bool,
-) -> Result<Reported, ReportFault>
+) -> Result<WrittenReport, ReportFault>
     // The verifier accepts the bytes that are reported on.
     ensures accepted { IfOk result (λ reported. AreAccepted reported.image.items) }
     // The digits are those of their SHA-256.
@@ -74,7 +74,7 @@ pub fn reported(
     } else {
         page_of(alloc, &report)?
     };
-    Ok(Reported {
+    Ok(WrittenReport {
         written,
         sha256: report.subject.sha256,
         image,
