@@ -135,11 +135,15 @@ fn command_of(alloc: Global, asked: &ReportWords<'_, '_>) -> Result<String, Allo
 /// The program and the kit that proves it, in a line.
 fn program_said(alloc: Global) -> Result<String, AllocError> {
     let mut said = String::from_str(alloc, "microsys_tool")?;
-    let mut before = " ";
+    let mut is_first = true;
     for line in VERSION.lines() {
-        said.push_str(before)?;
+        if is_first {
+            said.push_str(" ")?;
+            is_first = false;
+        } else {
+            said.push_str(", ")?;
+        }
         said.push_str(line)?;
-        before = ", ";
     }
     Ok(said)
 }
