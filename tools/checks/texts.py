@@ -24,8 +24,9 @@ FORM = re.compile(r"\bTables::told_by\b|use Rattle\.objects\.specs\.(?:Rights\.|
 
 REQUIRES = re.compile(r"^\s*requires\b", re.M)
 PREMISES = Path(HERE, "premises.txt")
-# How many columns lines may have at most: of definitions and proofs, and of documents, but for their tables and examples.
-PROOF_COLUMNS, TEXT_COLUMNS = 160, 120
+# How many columns lines may have at most: of code, definitions and proofs, but for attributes, which `rt fmt` keeps on one line,
+# and of documents, but for their tables and examples.
+CODE_COLUMNS, TEXT_COLUMNS = 160, 120
 
 
 def premises():
@@ -54,12 +55,12 @@ def write_premises():
 
 def too_wide():
     """The files with lines that are wider than lines may be; each line is printed."""
-    proofs = [(it, PROOF_COLUMNS, ()) for folder in ("specs", "proofs") for it in Path("crates").glob(f"*/{folder}/**/*.antt")]
+    code = [(it, CODE_COLUMNS, ("#[", "    #[")) for form in ("src/**/*.rt", "specs/**/*.antt", "proofs/**/*.antt") for it in Path("crates").glob(f"*/{form}")]
     texts = [(it, TEXT_COLUMNS, ("|", "    ")) for top in (".", "docs", "samples", "tools") for it in Path(top).glob("*.md" if top == "." else "**/*.md")]
     found = []
-    for file, columns, free in sorted(proofs + texts):
+    for file, columns, free in sorted(code + texts):
         for number, line in enumerate(file.read_text(encoding="utf-8").splitlines(), 1):
-            if len(line) > columns and not line.startswith(free or "\0"):
+            if len(line) > columns and not line.startswith(free):
                 print(f"{file}:{number}: {len(line)} columns, and no more than {columns} are allowed")
                 found.append(str(file))
     return found

@@ -116,6 +116,7 @@ ALONE = [
 def words():
     """The words in the order of the source, and after each what is added."""
     text = SOURCE.read_text(encoding="utf-8")
+    text = re.sub(r"\\\n\s*", "", text)  # a literal goes on behind a backslash at a line's end
     constants = {name: value for name, value in re.findall(r'^const (\w+): &str =\s*"((?:[^"\\]|\\.)*)";', text, re.M)}
     said = lambda it: constants[it] if it in constants else it.strip('"')
     argument = r"Argument(?:<'_>)? ?(?:= Argument )?\{\s*form: (\"[^\"]*\"|\w+),\s*help: (\"[^\"]*\"|\w+),\s*\}"

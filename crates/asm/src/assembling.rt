@@ -41,7 +41,10 @@ fn add_waiting<'a>(
     labels: &[Labels<'a>],
 ) -> Result<(), SourceFault>
     ensures fault { IfErr result (λ fault. (fault.line ≡ number) × (1 ≤ fault.kind) × (fault.kind ≤ 5)) }
-    ensures meant { MatchResult result (λ _. waiting_read labels.now number is_last assembly.old (option_map (λ text. text.now) waiting.entry) ≡ Ok assembly.new) (λ fault. IsSome waiting.entry × ((fault.kind ≡ 5) ⊎ (waiting_read labels.now number is_last assembly.old (option_map (λ text. text.now) waiting.entry) ≡ Err fault.kind))) }
+    ensures meant { MatchResult result (λ _. waiting_read labels.now number is_last assembly.old (option_map (λ text. text.now) waiting.entry)
+        ≡ Ok assembly.new)
+        (λ fault. IsSome waiting.entry × ((fault.kind ≡ 5)
+        ⊎ (waiting_read labels.now number is_last assembly.old (option_map (λ text. text.now) waiting.entry) ≡ Err fault.kind))) }
 {
     match waiting {
         Some(text) => match add_text(assembly, text, number, is_last, labels) {
@@ -60,7 +63,8 @@ fn add_lines<'a>(
     labels: &[Labels<'a>],
 ) -> Result<u64, SourceFault>
     ensures fault { IfErr result (λ fault. (1 ≤ fault.line) × (1 ≤ fault.kind) × (fault.kind ≤ 5)) }
-    ensures meant { MatchResult result (λ number. all_read labels.now 0 assembly.old (lines text.now) ≡ Ok (number, assembly.new)) (λ fault. (fault.kind ≡ 5) ⊎ (all_read labels.now 0 assembly.old (lines text.now) ≡ Err (fault.line, fault.kind))) }
+    ensures meant { MatchResult result (λ number. all_read labels.now 0 assembly.old (lines text.now) ≡ Ok (number, assembly.new))
+        (λ fault. (fault.kind ≡ 5) ⊎ (all_read labels.now 0 assembly.old (lines text.now) ≡ Err (fault.line, fault.kind))) }
 {
     let mut waiting = None;
     let mut number = 0u64;
@@ -115,8 +119,12 @@ fn image_with<'a>(alloc: Global, text: &'a str, labels: &[Labels<'a>]) -> Result
 pub fn assemble(alloc: Global, text: &str) -> Result<Image, SourceFault>
     ensures image { IfOk result (λ image. whole_image.fits image ≡ true) }
     ensures fault { IfErr result (λ fault. (1 ≤ fault.line) × (1 ≤ fault.kind) × (fault.kind ≤ 5)) }
-    ensures listed { (listed : described.Image) → whole_image.fits listed ≡ true → listed.header.version ≡ version_listed listed.objects listed.promises listed.threads → All (λ (t : described.Thread). t.header.entry < t.header.words) listed.threads → text.now ≡ listing listed → MatchResult result (λ image. image ≡ listed) (λ fault. fault.kind ≡ 5) }
-    ensures meant { MatchResult result (λ image. text_means text.now ≡ Ok image) (λ fault. (fault.kind ≡ 5) ⊎ (text_means text.now ≡ Err (fault.line, fault.kind))) }
+    ensures listed { (listed : described.Image) → whole_image.fits listed ≡ true
+        → listed.header.version ≡ version_listed listed.objects listed.promises listed.threads
+        → All (λ (t : described.Thread). t.header.entry < t.header.words) listed.threads → text.now ≡ listing listed
+        → MatchResult result (λ image. image ≡ listed) (λ fault. fault.kind ≡ 5) }
+    ensures meant { MatchResult result (λ image. text_means text.now ≡ Ok image)
+        (λ fault. (fault.kind ≡ 5) ⊎ (text_means text.now ≡ Err (fault.line, fault.kind))) }
 {
     let labels = labels_of(alloc, text)?;
     image_with(alloc, text, &labels)

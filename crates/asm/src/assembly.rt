@@ -9,7 +9,8 @@ ghost use Rattle.model.specs.Images.Listing.{some_buffered, some_device, version
 ghost use Rattle.asm_line.specs.declared.lines.Line.TheVariants as said;
 ghost use Rattle.asm.specs.declared.faults.Fault.{Fault};
 ghost use Rattle.asm.specs.Drafts.{assembled, nothing_read};
-ghost use Rattle.asm.specs.Meaning.{add_line, ended, finished, first_line, fitting, in_thread, inside, is_blank, is_end, leaves_open, memory_known, outside, placed_with, read_line, thread_begins, thread_opened, with_declared};
+ghost use Rattle.asm.specs.Meaning.{add_line, ended, finished, first_line, fitting, in_thread, inside, is_blank, is_end, leaves_open};
+ghost use Rattle.asm.specs.Meaning.{memory_known, outside, placed_with, read_line, thread_begins, thread_opened, with_declared};
 ghost use Rattle.asm.specs.Outcomes.{Means, kind_of};
 ghost use Rattle.asm.specs.Reading.{labels_at};
 ghost use Rattle.asm.specs.Sections.{entry_of};
@@ -299,7 +300,8 @@ impl<'a> Assembly<'a> {
         number: u64,
         labels: &[Labels<'a>],
     ) -> Result<(), Fault>
-        ensures { Means result (λ _. thread.new) (inside (labels_at labels.now (length self.now.threads)) number self.now.declared.names thread.old line.entry) }
+        ensures { Means result (λ _. thread.new)
+            (inside (labels_at labels.now (length self.now.threads)) number self.now.declared.names thread.old line.entry) }
     {
         match labels.get(self.threads.len()) {
             Some(labels) => thread.add(self.alloc, line, number, &self.declared.names, labels),
@@ -318,7 +320,8 @@ impl<'a> Assembly<'a> {
         number: u64,
         labels: &[Labels<'a>],
     ) -> Result<(), Fault>
-        ensures { self.old.open_thread ≡ None → Means result (λ _. self.new) (in_thread (labels_at labels.now (length self.old.threads)) number self.old thread line.entry) }
+        ensures { self.old.open_thread ≡ None → Means result (λ _. self.new)
+            (in_thread (labels_at labels.now (length self.old.threads)) number self.old thread line.entry) }
     {
         if is_end(&line) {
             return self.end_thread(thread);
@@ -338,7 +341,9 @@ impl<'a> Assembly<'a> {
     /// What the first line says, and the capabilities, if the last thread is at its end.
     #[tactic(auto, unfolding(crate::specs::Meaning::memory_known))]
     fn first_and_capabilities(&self) -> Result<(Memory, Vec<CapabilityEntry>), Fault>
-        ensures { MatchResult result (λ found. (memory_known self.now ≡ Ok found.0) × (found.1.items ≡ map (entry_of self.now.declared) self.now.declared.capabilities)) (λ fault. (fault ≡ Fault.Memory) ⊎ (memory_known self.now ≡ Err (kind_of fault))) }
+        ensures { MatchResult result (λ found. (memory_known self.now ≡ Ok found.0)
+            × (found.1.items ≡ map (entry_of self.now.declared) self.now.declared.capabilities))
+            (λ fault. (fault ≡ Fault.Memory) ⊎ (memory_known self.now ≡ Err (kind_of fault))) }
     {
         match (self.memory, &self.open) {
             (Some(memory), None) => Ok((memory, self.declared.capability_entries(self.alloc)?)),

@@ -4,7 +4,8 @@ ghost use Rattle.std.specs.Prelude.{◌≡◌, Ok, Err, if◌then◌else◌, fal
 ghost use Rattle.std.specs.List.{list_any};
 ghost use Rattle.std.specs.Str.{bytes_eq};
 ghost use Rattle.asm.specs.declared.faults.Fault.{Fault};
-ghost use Rattle.asm.specs.Names.{is_taken, line_of_name, no_names, number_at, number_known, source_known, with_interrupt_name, with_object_name, with_untyped_name};
+ghost use Rattle.asm.specs.Names.{is_taken, line_of_name, no_names, number_at, number_known, source_known};
+ghost use Rattle.asm.specs.Names.{with_interrupt_name, with_object_name, with_untyped_name};
 ghost use Rattle.asm.specs.Outcomes.{Gives, Means};
 
 use crate::faults::Fault;

@@ -2,7 +2,9 @@
 
 ghost use Rattle.std.specs.Prelude.{◌≡◌, [], length, IfOk, MatchResult, slice_index};
 ghost use Rattle.asm.specs.declared.faults.Fault.{Fault};
-ghost use Rattle.asm.specs.Meaning.{branch_word, buffered_with, coded_with, inside, jump_word, labelled_with, may_end, measured_with, noting, offset_between, parent_known, ranges_with, record_said, slots_with, sorted_terms, terms_said, thread_begins, with_registers, word_added, word_at};
+ghost use Rattle.asm.specs.Meaning.{branch_word, buffered_with, coded_with, inside, jump_word, labelled_with, may_end};
+ghost use Rattle.asm.specs.Meaning.{measured_with, noting, offset_between, parent_known, ranges_with, record_said, slots_with};
+ghost use Rattle.asm.specs.Meaning.{sorted_terms, terms_said, thread_begins, with_registers, word_added, word_at};
 ghost use Rattle.asm.specs.Outcomes.{Means};
 
 use crate::faults::Fault;

@@ -1,7 +1,9 @@
 //! Instructions: their operands in the manual's order, and loads, stores and `jalr` as `lw x1 4(x2)`.
 
 ghost use Rattle.std.specs.Prelude.{◌≡◌, ◌==◌, ◌<◌, ◌≤ℤ◌, IfOk, Ok, Some, pos, negsuc, option_map, position, drop};
-ghost use Rattle.asm_line.specs.Instructions.{address_first, address_of, address_in_parts, bare_line, bare_of, branch_line, coded, immediate_line, immediate_of, instruction_of, jump_line, jump_register_line, load_line, opened, unclosed, register_and_address, register_operand, registers_and_number_of, registers_line, shift_line, spelling, store_line, upper_line};
+ghost use Rattle.asm_line.specs.Instructions.{address_first, address_of, address_in_parts, bare_line, bare_of, branch_line, coded, immediate_line};
+ghost use Rattle.asm_line.specs.Instructions.{immediate_of, instruction_of, jump_line, jump_register_line, load_line, opened, unclosed, register_and_address};
+ghost use Rattle.asm_line.specs.Instructions.{register_operand, registers_and_number_of, registers_line, shift_line, spelling, store_line, upper_line};
 ghost use Rattle.model.specs.Machine.Instructions.{IsInstr};
 
 use crate::faults::LineFault;

@@ -121,7 +121,8 @@ impl<'a> Words<'a> {
     /// The first of the words' ranges of a `promise` line that are left, and those after it.
     pub fn next_promised_word(self) -> Option<(PromisedWord, Words<'a>)>
         ensures exact { result ≡ result_ok (promised_first self.entry) }
-        ensures listed { (word : PromisedWord) (rest : List Text) → IsPromisedWord word → self.entry ≡ promised_words word ++ rest → result ≡ Some (word, rest) }
+        ensures listed { (word : PromisedWord) (rest : List Text) → IsPromisedWord word → self.entry ≡ promised_words word ++ rest
+            → result ≡ Some (word, rest) }
     {
         promised_and_rest(self).ok()
     }

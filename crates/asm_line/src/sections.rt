@@ -1,7 +1,9 @@
 //! The lines of the sections before the threads.
 
 ghost use Rattle.std.specs.Prelude.{◌≡◌};
-ghost use Rattle.asm_line.specs.Lines.{all_numbers, all_promised, all_words, some_numbers, capability_of, content_of, frame_of, interrupt_of, kind_first, last_kind, memory_of, number_pairs, object_of, promise_of, promised_first, promised_of, size_first, some_pairs, table_of, untyped_of, word_first};
+ghost use Rattle.asm_line.specs.Lines.{all_numbers, all_promised, all_words, some_numbers, capability_of, content_of, frame_of};
+ghost use Rattle.asm_line.specs.Lines.{interrupt_of, kind_first, last_kind, memory_of, number_pairs, object_of, promise_of};
+ghost use Rattle.asm_line.specs.Lines.{promised_first, promised_of, size_first, some_pairs, table_of, untyped_of, word_first};
 
 use crate::faults::LineFault;
 use crate::keywords::kind_in;

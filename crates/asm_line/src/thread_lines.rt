@@ -2,7 +2,9 @@
 
 ghost use Rattle.std.specs.Prelude.{◌≡◌, ◌==◌, ◌&&◌};
 ghost use Rattle.asm_line.specs.Meaning.{known, known_slot_of};
-ghost use Rattle.asm_line.specs.Lines.{buffer_of, budget_of, all_pairs, all_terms, coefficient_of, constant_of, measure_of, named_register, parent_first, parent_with, range_of, register_line_of, slot_of, slot_said, slot_words_of, term_first, term_of, thread_of, thread_said, thread_words_of};
+ghost use Rattle.asm_line.specs.Lines.{buffer_of, budget_of, all_pairs, all_terms, coefficient_of, constant_of, measure_of};
+ghost use Rattle.asm_line.specs.Lines.{named_register, parent_first, parent_with, range_of, register_line_of, slot_of, slot_said};
+ghost use Rattle.asm_line.specs.Lines.{slot_words_of, term_first, term_of, thread_of, thread_said, thread_words_of};
 
 use crate::faults::LineFault;
 use crate::keywords::is;

@@ -1,7 +1,8 @@
 //! The words of a line: what is between spaces, tabs and commas.
 
 ghost use Rattle.std.specs.Prelude.{◌≡◌, ◌<◌, IfOk, [], ◌∷◌, not, position, MatchOption};
-ghost use Rattle.asm_line.specs.Words.{ends, is_blank, last_number, last_numbers, name_first, number_first, object_first, place_first, register_first, words_of};
+ghost use Rattle.asm_line.specs.Words.{ends, is_blank, last_number, last_numbers, name_first, number_first};
+ghost use Rattle.asm_line.specs.Words.{object_first, place_first, register_first, words_of};
 
 use crate::faults::LineFault;
 use crate::keywords::is;

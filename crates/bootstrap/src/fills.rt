@@ -29,7 +29,8 @@ impl Loader {
         places: &[u64],
     ) -> Result<(), BootFault>
         requires places { ArePlaces image.now.read.now image.now.read.now.header.objects places.now }
-        ensures outcome { GivesState (all_performed image.now.read.now.header.untypeds (progress_of self.old) (map (content_operation image.now.read.now) image.now.read.now.contents)) result (progress_of self.new) }
+        ensures outcome { GivesState (all_performed image.now.read.now.header.untypeds (progress_of self.old)
+            (map (content_operation image.now.read.now) image.now.read.now.contents)) result (progress_of self.new) }
         ensures counted { self.new.calls ≡ self.old.calls }
     {
         for content in image.read.contents() {
@@ -47,7 +48,8 @@ impl Loader {
     ) -> Result<(), BootFault>
         requires fits { ContentFits image.now.read.now.header content.now }
         requires places { ArePlaces image.now.read.now image.now.read.now.header.objects places.now }
-        ensures outcome { GivesState (performed image.now.read.now.header.untypeds (progress_of self.old) (content_operation image.now.read.now content.now)) result (progress_of self.new) }
+        ensures outcome { GivesState (performed image.now.read.now.header.untypeds (progress_of self.old) (content_operation image.now.read.now content.now))
+            result (progress_of self.new) }
         ensures counted { self.new.calls ≡ self.old.calls }
     {
         let frame = content.header().frame;
@@ -64,7 +66,8 @@ impl Loader {
         places: &[u64],
     ) -> Result<(), BootFault>
         requires places { ArePlaces image.now.read.now image.now.read.now.header.objects places.now }
-        ensures outcome { GivesState (all_performed image.now.read.now.header.untypeds (progress_of self.old) (map (program_operation image.now.read.now) (numbered_threads image.now.read.now))) result (progress_of self.new) }
+        ensures outcome { GivesState (all_performed image.now.read.now.header.untypeds (progress_of self.old)
+            (map (program_operation image.now.read.now) (numbered_threads image.now.read.now))) result (progress_of self.new) }
         ensures counted { self.new.calls ≡ self.old.calls }
     {
         let mut number = 0;
@@ -85,7 +88,8 @@ impl Loader {
     ) -> Result<(), BootFault>
         requires fits { ThreadFits image.now.read.now.header thread.now }
         requires places { ArePlaces image.now.read.now image.now.read.now.header.objects places.now }
-        ensures outcome { GivesState (performed image.now.read.now.header.untypeds (progress_of self.old) (program_operation image.now.read.now (record { number = number; thread = thread.now }))) result (progress_of self.new) }
+        ensures outcome { GivesState (performed image.now.read.now.header.untypeds (progress_of self.old)
+            (program_operation image.now.read.now (record { number = number; thread = thread.now }))) result (progress_of self.new) }
         ensures counted { self.new.calls ≡ self.old.calls }
     {
         let header = thread.header();
@@ -109,7 +113,8 @@ impl Loader {
     ) -> Result<(), BootFault>
         requires fits { ThreadFits image.now.read.now.header thread.now }
         requires places { ArePlaces image.now.read.now image.now.read.now.header.objects places.now }
-        ensures outcome { GivesState (placed number self.old.calls (pages_filled image.now.read.now thread.now (state_in self.old.machine) (program_pages thread.now))) result (progress_of self.new) }
+        ensures outcome { GivesState (placed number self.old.calls
+            (pages_filled image.now.read.now thread.now (state_in self.old.machine) (program_pages thread.now))) result (progress_of self.new) }
         ensures counted { self.new.calls ≡ self.old.calls }
     {
         let pages = (4 * thread.header().words + (PAGE - 1)) / PAGE;
@@ -130,7 +135,8 @@ impl Loader {
     ) -> Result<(), BootFault>
         requires places { ArePlaces image.now.read.now image.now.read.now.header.objects places.now }
         requires page { page ≤ 64 }
-        ensures outcome { GivesState (placed number self.old.calls (page_filled image.now.read.now thread.now (state_in self.old.machine) (thread.now.header.base + page * page_size))) result (progress_of self.new) }
+        ensures outcome { GivesState (placed number self.old.calls
+            (page_filled image.now.read.now thread.now (state_in self.old.machine) (thread.now.header.base + page * page_size))) result (progress_of self.new) }
         ensures counted { self.new.calls ≡ self.old.calls }
     {
         let header = thread.header();

@@ -67,7 +67,8 @@ impl Loader {
     /// Makes the objects, each in its untyped, after the ones before it.
     pub(crate) fn make_objects(&mut self, image: &BootImage<'_, '_>) -> Result<(), BootFault>
         requires room { self.old.calls ≤ 2 ^ 29 }
-        ensures outcome { GivesState (called (progress_of self.old) (map (object_call image.now.read.now) (range_with_len 0 image.now.read.now.header.objects))) result (progress_of self.new) }
+        ensures outcome { GivesState (called (progress_of self.old) (map (object_call image.now.read.now) (range_with_len 0 image.now.read.now.header.objects)))
+            result (progress_of self.new) }
         ensures counted { self.new.calls ≤ self.old.calls + 4096 }
     {
         for number in 0..image.read.header().objects {
@@ -92,7 +93,8 @@ impl Loader {
     /// Takes the handler of each interrupt's line.
     pub(crate) fn take_handlers(&mut self, image: &BootImage<'_, '_>) -> Result<(), BootFault>
         requires room { self.old.calls ≤ 2 ^ 29 }
-        ensures outcome { GivesState (called (progress_of self.old) (map (interrupt_call image.now.read.now) (numbered image.now.read.now.interrupts))) result (progress_of self.new) }
+        ensures outcome { GivesState (called (progress_of self.old) (map (interrupt_call image.now.read.now) (numbered image.now.read.now.interrupts))) result
+            (progress_of self.new) }
         ensures counted { self.new.calls ≤ self.old.calls + 64 }
     {
         for number in 0..image.read.header().interrupts {
@@ -121,7 +123,8 @@ impl Loader {
     /// Puts the listed capabilities into their slots.
     pub(crate) fn put_capabilities(&mut self, image: &BootImage<'_, '_>) -> Result<(), BootFault>
         requires room { self.old.calls ≤ 2 ^ 29 }
-        ensures outcome { GivesState (called (progress_of self.old) (map (capability_call image.now.read.now) image.now.read.now.capabilities)) result (progress_of self.new) }
+        ensures outcome { GivesState (called (progress_of self.old) (map (capability_call image.now.read.now) image.now.read.now.capabilities)) result
+            (progress_of self.new) }
         ensures counted { self.new.calls ≤ self.old.calls + 16384 }
     {
         for number in 0..image.read.header().capabilities {
@@ -164,7 +167,8 @@ impl Loader {
     /// Maps the page tables.
     pub(crate) fn map_tables(&mut self, image: &BootImage<'_, '_>) -> Result<(), BootFault>
         requires room { self.old.calls ≤ 2 ^ 29 }
-        ensures outcome { GivesState (called (progress_of self.old) (map (table_call image.now.read.now) image.now.read.now.tables)) result (progress_of self.new) }
+        ensures outcome { GivesState (called (progress_of self.old) (map (table_call image.now.read.now) image.now.read.now.tables)) result
+            (progress_of self.new) }
         ensures counted { self.new.calls ≤ self.old.calls + 1024 }
     {
         for number in 0..image.read.header().tables {
@@ -188,7 +192,8 @@ impl Loader {
     /// Maps the frames, each by a copy of its capability.
     pub(crate) fn map_frames(&mut self, image: &BootImage<'_, '_>) -> Result<(), BootFault>
         requires room { self.old.calls ≤ 2 ^ 29 }
-        ensures outcome { GivesState (called (progress_of self.old) (flat_map (frame_calls image.now.read.now) (numbered image.now.read.now.frames))) result (progress_of self.new) }
+        ensures outcome { GivesState (called (progress_of self.old) (flat_map (frame_calls image.now.read.now) (numbered image.now.read.now.frames))) result
+            (progress_of self.new) }
         ensures counted { self.new.calls ≤ self.old.calls + 8192 }
     {
         for number in 0..image.read.header().frames {
@@ -229,7 +234,8 @@ impl Loader {
     /// Binds each interrupt's line to its notification, by a copy with the badge.
     pub(crate) fn bind_interrupts(&mut self, image: &BootImage<'_, '_>) -> Result<(), BootFault>
         requires room { self.old.calls ≤ 2 ^ 29 }
-        ensures outcome { GivesState (called (progress_of self.old) (flat_map (signal_calls image.now.read.now) (numbered image.now.read.now.interrupts))) result (progress_of self.new) }
+        ensures outcome { GivesState (called (progress_of self.old) (flat_map (signal_calls image.now.read.now) (numbered image.now.read.now.interrupts)))
+            result (progress_of self.new) }
         ensures counted { self.new.calls ≤ self.old.calls + 128 }
     {
         for number in 0..image.read.header().interrupts {
@@ -273,7 +279,8 @@ impl Loader {
     /// Sets the threads up and lets them run, in the image's order.
     pub(crate) fn start_threads(&mut self, image: &BootImage<'_, '_>) -> Result<(), BootFault>
         requires room { self.old.calls ≤ 2 ^ 29 }
-        ensures outcome { GivesState (called (progress_of self.old) (flat_map (thread_calls image.now.read.now) image.now.read.now.threads)) result (progress_of self.new) }
+        ensures outcome { GivesState (called (progress_of self.old) (flat_map (thread_calls image.now.read.now) image.now.read.now.threads)) result
+            (progress_of self.new) }
         ensures counted { self.new.calls ≤ self.old.calls + 2304 }
     {
         for thread in image.read.threads() {
@@ -332,7 +339,8 @@ impl Loader {
     ) -> Result<(), BootFault>
         requires buffer { header.now.buffer ≢ no_buffer → header.now.buffer < image.now.read.now.header.objects }
         requires room { self.old.calls ≤ 2 ^ 30 - 40 }
-        ensures outcome { GivesState (called (progress_of self.old) (space_calls image.now.read.now tcb cspace vspace header.now)) result (progress_of self.new) }
+        ensures outcome { GivesState (called (progress_of self.old) (space_calls image.now.read.now tcb cspace vspace header.now)) result
+            (progress_of self.new) }
         ensures counted { self.new.calls ≤ self.old.calls + 2 }
     {
         let words = [header.fault, cspace, DEPTH, vspace, DEPTH, header.guard];
@@ -354,7 +362,8 @@ impl Loader {
     fn resume(&mut self, tcb: u32, thread: &ThreadRef<'_>) -> Result<(), BootFault>
         requires few { length thread.now.registers ≤ 31 }
         requires room { self.old.calls ≤ 2 ^ 30 - 36 }
-        ensures outcome { GivesState (called (progress_of self.old) (map (register_call tcb) thread.now.registers ++ loader_call tcb resume_label [] ∷ [])) result (progress_of self.new) }
+        ensures outcome { GivesState (called (progress_of self.old) (map (register_call tcb) thread.now.registers ++ loader_call tcb resume_label [] ∷ []))
+            result (progress_of self.new) }
         ensures counted { self.new.calls ≤ self.old.calls + 32 }
     {
         self.set_registers(tcb, thread)?;

@@ -58,7 +58,8 @@ impl Loader {
     fn load(&mut self, image: &BootImage<'_, '_>, places: &[u64]) -> Result<(), BootFault>
         requires places { ArePlaces image.now.read.now image.now.read.now.header.objects places.now }
         requires first { self.old.calls ≡ 0 }
-        ensures { GivesState (all_performed image.now.read.now.header.untypeds (progress_of self.old) (operations image.now.read.now)) result (progress_of self.new) }
+        ensures { GivesState (all_performed image.now.read.now.header.untypeds (progress_of self.old) (operations image.now.read.now)) result
+            (progress_of self.new) }
     {
         self.put_untypeds(image)?;
         self.put_control(image)?;
@@ -70,7 +71,8 @@ impl Loader {
 
     /// Puts the untyped memory into its boot slots.
     fn put_untypeds(&mut self, image: &BootImage<'_, '_>) -> Result<(), BootFault>
-        ensures outcome { GivesState (all_performed image.now.read.now.header.untypeds (progress_of self.old) (map (λ u. PutsUntyped u.0 u.1) (numbered image.now.read.now.untypeds))) result (progress_of self.new) }
+        ensures outcome { GivesState (all_performed image.now.read.now.header.untypeds (progress_of self.old)
+            (map (λ u. PutsUntyped u.0 u.1) (numbered image.now.read.now.untypeds))) result (progress_of self.new) }
         ensures counted { self.new.calls ≡ self.old.calls }
     {
         for number in 0..image.read.header().untypeds {
@@ -83,7 +85,8 @@ impl Loader {
     /// Puts untyped memory into its boot slot.
     fn put_untyped(&mut self, number: u32, entry: UntypedEntry) -> Result<(), BootFault>
         requires { entry.bits ≤ 24 }
-        ensures outcome { GivesState (placed number self.old.calls (put_untyped (state_in self.old.machine) number entry.offset entry.bits)) result (progress_of self.new) }
+        ensures outcome { GivesState (placed number self.old.calls (put_untyped (state_in self.old.machine) number entry.offset entry.bits)) result
+            (progress_of self.new) }
         ensures counted { self.new.calls ≡ self.old.calls }
     {
         if self.machine.untyped(number, entry.offset, entry.bits as u8) {
@@ -95,7 +98,8 @@ impl Loader {
 
     /// Puts interrupt control into its boot slot.
     fn put_control(&mut self, image: &BootImage<'_, '_>) -> Result<(), BootFault>
-        ensures outcome { GivesState (performed image.now.read.now.header.untypeds (progress_of self.old) (PutsControl (control_slot image.now.read.now))) result (progress_of self.new) }
+        ensures outcome { GivesState (performed image.now.read.now.header.untypeds (progress_of self.old) (PutsControl (control_slot image.now.read.now)))
+            result (progress_of self.new) }
         ensures counted { self.new.calls ≡ self.old.calls }
     {
         if self.machine.control(control_slot(image)) {

@@ -1,7 +1,8 @@
 //! Which capabilities there are.
 
 ghost use Rattle.std.specs.Prelude.{◌≡◌, ◌↔◌, ◌≤◌, ◌<◌, IsTrue};
-ghost use Rattle.model.specs.Capabilities.CapabilityWords.{AreEndpointRights, AreMappingRights, IsCapability, IsFrameMapping, IsGuardWord, IsPlace, IsTableMapping};
+ghost use Rattle.model.specs.Capabilities.CapabilityWords.{AreEndpointRights, AreMappingRights, IsCapability};
+ghost use Rattle.model.specs.Capabilities.CapabilityWords.{IsFrameMapping, IsGuardWord, IsPlace, IsTableMapping};
 
 use model::{Cap, FrameMapping, Rights, TableMapping};
 

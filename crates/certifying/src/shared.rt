@@ -133,7 +133,8 @@ impl<'a, 's> Shared<'a, 's> {
         part_of(&self.changes, stretch)
     }
 
-    /// What the system call at a point leaves of the registers in a state, and the slots that it changes. What the state shares with the one that was looked at last is not gone through again.
+    /// What the system call at a point leaves of the registers in a state, and the slots that it changes. What the state shares with the
+    /// one that was looked at last is not gone through again.
     pub(crate) fn asked(
         &mut self,
         at: Point,

@@ -42,7 +42,8 @@ fn empty_all<S: SlotStore>(
         ≡ emptied (state_of objects.new (S.slots store.new) (S.memory store.new)) more }
     ensures noted { Notes (state_of objects.old (S.slots store.old) (S.memory store.old)) left.old
         (state_of objects.new (S.slots store.new) (S.memory store.new)) left.new }
-    ensures lines { LinesGone (state_of objects.old (S.slots store.old) (S.memory store.old)) (state_of objects.new (S.slots store.new) (S.memory store.new)) result }
+    ensures lines { LinesGone (state_of objects.old (S.slots store.old) (S.memory store.old))
+        (state_of objects.new (S.slots store.new) (S.memory store.new)) result }
     ensures shape { SameShape (state_of objects.old (S.slots store.old) (S.memory store.old)) (state_of objects.new (S.slots store.new) (S.memory store.new)) }
     ensures agree { Agreed objects.new (S.slots store.new) (S.memory store.new) }
     ensures ready { IsReady (state_of objects.new (S.slots store.new) (S.memory store.new)) }

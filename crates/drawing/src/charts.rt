@@ -287,7 +287,8 @@ impl Canvas<'_, '_> {
         };
         write!(
             self.svg,
-            "<path class=\"y\" d=\"M{x} {base}V{y}\"/><path fill=\"{WORLD}\" d=\"M{x} {base}{head}\"/><circle cx=\"{x}\" cy=\"{y}\" r=\"2.5\" fill=\"{WORLD}\"/>\n"
+            "<path class=\"y\" d=\"M{x} {base}V{y}\"/><path fill=\"{WORLD}\" d=\"M{x} {base}{head}\"/>\
+             <circle cx=\"{x}\" cy=\"{y}\" r=\"2.5\" fill=\"{WORLD}\"/>\n"
         )
     }
 
@@ -630,9 +631,9 @@ fn names_in<'t>(alloc: Global, text: Option<&'t str>) -> Result<Option<TextNames
 /// and ticks, interrupts and what the world writes (an arrow down) and reads (an arrow up) above; below the threads a row for each word
 /// that the world writes or reads, with its values. Long runs of one thread are drawn shorter, and what does not fit beside it is put in
 /// the next band. Below the lane of a thread that deals with interrupts there is a bar from each interrupt to its next wait, with how many
-/// instructions that took, and how many at most. With the text of the image threads have their names, with the most instructions from one wait to the next and the
-/// budget, where they wait or faulted is said by label and line, and the lines of the trace may have its names. Of the events before and
-/// after those that are drawn it is read who runs.
+/// instructions that took, and how many at most. With the text of the image threads have their names, with the most instructions from one
+/// wait to the next and the budget, where they wait or faulted is said by label and line, and the lines of the trace may have its names.
+/// Of the events before and after those that are drawn it is read who runs.
 ///
 /// # Errors
 ///

@@ -10,7 +10,9 @@ use system_pictures::reached_in;
 
 /// What is at the head of each graph.
 const HEAD: &str =
-    "digraph system {\n  graph [rankdir=LR, bgcolor=white, pad=0.3, nodesep=0.35, ranksep=0.7, fontname=\"Helvetica\"];\n  node [fontname=\"Helvetica\", fontsize=12, margin=\"0.14,0.08\"];\n  edge [fontname=\"Helvetica\", fontsize=10, fontcolor=\"#333333\", color=\"#555555\", arrowsize=0.7];\n";
+    "digraph system {\n  graph [rankdir=LR, bgcolor=white, pad=0.3, nodesep=0.35, ranksep=0.7, fontname=\"Helvetica\"];\n  \
+     node [fontname=\"Helvetica\", fontsize=12, margin=\"0.14,0.08\"];\n  \
+     edge [fontname=\"Helvetica\", fontsize=10, fontcolor=\"#333333\", color=\"#555555\", arrowsize=0.7];\n";
 
 /// Whether an object of this kind is drawn where a capability names it: untyped memory, an endpoint, or a notification.
 fn is_drawn(kind: Option<ObjectType>) -> bool {

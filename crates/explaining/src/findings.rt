@@ -39,7 +39,8 @@ impl Scene<'_, '_, '_, '_, '_, '_, '_> {
         self.push_head(to, point)?;
         write!(
             to,
-            "more than {MOST_SLOTS} slots would have to be noted at this point\n  a record is needed there: let at most {MOST_SLOTS} slots differ from what the image lists\n"
+            "more than {MOST_SLOTS} slots would have to be noted at this point\n  \
+             a record is needed there: let at most {MOST_SLOTS} slots differ from what the image lists\n"
         )
     }
 

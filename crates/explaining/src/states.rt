@@ -250,7 +250,8 @@ impl<'a> Scene<'a, '_, '_, '_, '_, '_, '_> {
     /// Whether one of some slots at a point is one that the thread may not have, or its record notes one outside of its CNodes.
     fn have_stray_slot(&self, point: u32, slots: &NotedSlots<'_>) -> bool
         requires image { slots.now.image.now ≡ self.now.given.slots.now }
-        ensures { (state : PointState) → state.slots ≡ slots_of slots.now → result ≡ has_stray_slots self.now.given.space.image.now self.now.given.space.thread.now point state }
+        ensures { (state : PointState) → state.slots ≡ slots_of slots.now
+            → result ≡ has_stray_slots self.now.given.space.image.now self.now.given.space.thread.now point state }
     {
         let noted = record_at(self.given.space.thread, point);
         let told = ToldSlots {

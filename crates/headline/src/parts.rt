@@ -2,7 +2,9 @@
 
 ghost use Rattle.std.specs.Prelude.{◌≡◌, ◌≢◌, ◌⊎◌};
 ghost use Rattle.model.specs.Kernel.State.{ThreadState};
-ghost use Rattle.headline.specs.parts.Laws.{AloneKeepsPhases, BlocksAgree, HeldQueuesAreListed, InstructionsDoSame, InterruptsAgree, OthersKeepAgreement, OthersLeaveLines, OthersLeaveObjects, OthersLeaveReady, OthersLeaveThreads, ReceivesAgree, RepliesAgree, SameRuns, SendsAgree, SignalsAgree, ThreadsHoldWhatTheyWereGiven, TicksAgree, WaitsAgree, WakesAgree, WithinKeepsGiven};
+ghost use Rattle.headline.specs.parts.Laws.{AloneKeepsPhases, BlocksAgree, HeldQueuesAreListed, InstructionsDoSame, InterruptsAgree, OthersKeepAgreement};
+ghost use Rattle.headline.specs.parts.Laws.{OthersLeaveLines, OthersLeaveObjects, OthersLeaveReady, OthersLeaveThreads, ReceivesAgree, RepliesAgree, SameRuns};
+ghost use Rattle.headline.specs.parts.Laws.{SendsAgree, SignalsAgree, ThreadsHoldWhatTheyWereGiven, TicksAgree, WaitsAgree, WakesAgree, WithinKeepsGiven};
 
 use crate::authority::events_stay_within_authority;
 use crate::kept::threads_have_their_own_blocks;

@@ -3,7 +3,9 @@
 ghost use Rattle.std.specs.Prelude.{◌≡◌, ℕ, ◌+◌, ◌&&◌, ◌||◌, ◌==◌, nat_lt, nat_le, ◌^◌, if◌then◌else◌, Some, None, true, false, IfOk, IfErr, length};
 ghost use Rattle.image.specs.Sections.{mappings_fit, sections_fit};
 ghost use Rattle.model.specs.Images.Format.{many_fit, field, number, only_if, signed_number};
-ghost use Rattle.model.specs.Images.Image.{anything, between, content_format, has_buffers, has_promises, header_format, image_with, latest_version, no_buffer, promise_format, record_format, record_header_format, sections_format, slots_format, thread_format, thread_header_format, whole_image};
+ghost use Rattle.model.specs.Images.Image.{anything, between, content_format, has_buffers, has_promises, header_format, image_with};
+ghost use Rattle.model.specs.Images.Image.{latest_version, no_buffer, promise_format, record_format, record_header_format};
+ghost use Rattle.model.specs.Images.Image.{sections_format, slots_format, thread_format, thread_header_format, whole_image};
 
 use crate::fitting::all_fit;
 use crate::parts::{Content, Parts, Promise, RecordParts, ThreadParts};

@@ -4,7 +4,8 @@ ghost use Rattle.std.specs.Prelude.{◌≡◌, IfOk, ◌≤◌, ◌+◌, ◌*◌
 ghost use Rattle.std.specs.Int.{w32, w64};
 ghost use Rattle.model.specs.declared.refusals.Refusal.TheVariants.{Magic, Version};
 ghost use Rattle.model.specs.Images.Format.{field, number, number_or, only_if, signed_number};
-ghost use Rattle.model.specs.Images.Image.{anything, below, between, has_buffers, has_promises, is_constant, latest_version, magic, no_buffer, no_parent, not_zero, pair_key};
+ghost use Rattle.model.specs.Images.Image.{anything, below, between, has_buffers, has_promises, is_constant};
+ghost use Rattle.model.specs.Images.Image.{latest_version, magic, no_buffer, no_parent, not_zero, pair_key};
 
 use crate::versions::{has_buffers, has_promises, is_known_version};
 use byteorder::{ByteOrder, LittleEndian};

@@ -38,14 +38,22 @@ impl<'a> Model for ImageRef<'a> {
 
     ghost Value = { Image };
 
-    ghost view = { λ i. sections_image i.bytes.now i.header i.untypeds_at i.objects_at i.capabilities_at i.interrupts_at i.tables_at i.frames_at i.contents_at i.promises_at i.threads_at };
+    ghost view = { λ i. sections_image i.bytes.now i.header i.untypeds_at i.objects_at i.capabilities_at i.interrupts_at i.tables_at i.frames_at i.contents_at
+        i.promises_at i.threads_at };
 
-    ghost invariant = { λ i. AreSections i.bytes.now i.header i.untypeds_at i.objects_at i.capabilities_at i.interrupts_at i.tables_at i.frames_at i.contents_at i.promises_at i.threads_at };
+    ghost invariant = { λ i. AreSections i.bytes.now i.header i.untypeds_at i.objects_at i.capabilities_at i.interrupts_at i.tables_at i.frames_at i.contents_at
+        i.promises_at i.threads_at };
 }
 
 /// The counts that the ranges of an image's fields depend on.
 fn counts_of(header: &ImageHeader) -> Counts
-    ensures { result ≡ record { version = header.now.version; untypeds = header.now.untypeds; objects = header.now.objects; interrupts = header.now.interrupts; words = 0 } }
+    ensures { result ≡ record {
+      version = header.now.version;
+      untypeds = header.now.untypeds;
+      objects = header.now.objects;
+      interrupts = header.now.interrupts;
+      words = 0;
+    } }
 {
     Counts {
         version: header.version,

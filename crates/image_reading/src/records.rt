@@ -166,9 +166,11 @@ impl<'a> Model for Records<'a> {
 
     ghost Value = { List StateRecord };
 
-    ghost view = { λ r. values_of (many_read (record_format (slots_format r.counts.objects) r.counts.words) (λ x. x.header.point + 1) r.least r.left r.bytes.now r.at) };
+    ghost view = { λ r. values_of (many_read (record_format (slots_format r.counts.objects) r.counts.words)
+        (λ x. x.header.point + 1) r.least r.left r.bytes.now r.at) };
 
-    ghost invariant = { λ r. is_ok (many_read (record_format (slots_format r.counts.objects) r.counts.words) (λ x. x.header.point + 1) r.least r.left r.bytes.now r.at) ≡ true };
+    ghost invariant = { λ r. is_ok (many_read (record_format (slots_format r.counts.objects) r.counts.words)
+        (λ x. x.header.point + 1) r.least r.left r.bytes.now r.at) ≡ true };
 }
 
 impl<'a> Records<'a> {

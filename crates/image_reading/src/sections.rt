@@ -4,7 +4,8 @@
 ghost use Rattle.std.specs.Prelude.{◌≡◌, ◌==◌, ◌&&◌, ◌||◌, ◌+◌, ◌^◌, nat_lt, nat_le, is_some, if◌then◌else◌, Some, None};
 ghost use Rattle.model.specs.Capabilities.CapabilityFields.{unpacked};
 ghost use Rattle.model.specs.Images.Format.{field};
-ghost use Rattle.model.specs.Images.Image.{below, capability_format, frame_format, interrupt_format, names_parent, object_format, pair_key, promised_word_format, size_fits_in, slot_format, table_format, untyped_format};
+ghost use Rattle.model.specs.Images.Image.{below, capability_format, frame_format, interrupt_format, names_parent, object_format, pair_key};
+ghost use Rattle.model.specs.Images.Image.{promised_word_format, size_fits_in, slot_format, table_format, untyped_format};
 
 use crate::entries::{Counts, Entry, Keyed, Listed};
 use crate::fields::{

@@ -165,9 +165,11 @@ impl<'a> Model for Threads<'a> {
 
     ghost Value = { List Thread };
 
-    ghost view = { λ r. values_of (many_read (λ _. thread_format (slots_format r.counts.objects) r.version r.counts.objects) (λ _. 0) 0 r.left r.bytes.now r.at) };
+    ghost view = { λ r. values_of (many_read (λ _. thread_format (slots_format r.counts.objects) r.version r.counts.objects)
+        (λ _. 0) 0 r.left r.bytes.now r.at) };
 
-    ghost invariant = { λ r. is_ok (many_read (λ _. thread_format (slots_format r.counts.objects) r.version r.counts.objects) (λ _. 0) 0 r.left r.bytes.now r.at) ≡ true };
+    ghost invariant = { λ r. is_ok (many_read (λ _. thread_format (slots_format r.counts.objects) r.version r.counts.objects)
+        (λ _. 0) 0 r.left r.bytes.now r.at) ≡ true };
 }
 
 impl<'a> Iterator for Threads<'a> {

@@ -3,7 +3,8 @@
 ghost use Rattle.std.specs.Prelude.{ℕ, ◌≡◌, Some};
 ghost use Rattle.ipc.specs.Buffers.{MayHandOver};
 ghost use Rattle.model.specs.Kernel.Kinds.{kind_at};
-ghost use Rattle.model.specs.Kernel.Messages.{a0, a1, bytes_between, deliver, deliver_sent, deliver_with, deliver_word, passes, passes_with, word_registers, write_words};
+ghost use Rattle.model.specs.Kernel.Messages.{a0, a1, bytes_between, deliver, deliver_sent, deliver_with, deliver_word};
+ghost use Rattle.model.specs.Kernel.Messages.{passes, passes_with, word_registers, write_words};
 ghost use Rattle.model.specs.Kernel.Retype.{NewThread};
 ghost use Rattle.model.specs.Kernel.State.{thread_at};
 ghost use Rattle.model.specs.Machine.ProgramMemory.{write};

@@ -35,7 +35,8 @@ fn receive_or_wait<S: SlotStore>(live: &mut Live<S>, endpoint: u32, thread: u32)
     requires buffers { HaveBuffers (state S.SlotStore live.old) }
     requires apart { StandsNowhere (state S.SlotStore live.old).objects thread }
     ensures state { state S.SlotStore live.new
-        ≡ receives (state S.SlotStore live.old) endpoint thread (waits_to_receive (state S.SlotStore live.old) endpoint thread) (endpoint_at (state S.SlotStore live.old) endpoint).senders }
+        ≡ receives (state S.SlotStore live.old) endpoint thread (waits_to_receive (state S.SlotStore live.old) endpoint thread)
+        (endpoint_at (state S.SlotStore live.old) endpoint).senders }
     ensures beside { Beside S.SlotStore live.old live.new }
 {
     match live.take_sender(endpoint) {
@@ -54,7 +55,8 @@ fn receive_or_pass<S: SlotStore>(live: &mut Live<S>, endpoint: u32, thread: u32)
     requires one_sided { IsOneSided (endpoint_at (state S.SlotStore live.old) endpoint) }
     requires buffers { HaveBuffers (state S.SlotStore live.old) }
     ensures state { state S.SlotStore live.new
-        ≡ receives (state S.SlotStore live.old) endpoint thread (deliver_word (state S.SlotStore live.old) thread 0) (endpoint_at (state S.SlotStore live.old) endpoint).senders }
+        ≡ receives (state S.SlotStore live.old) endpoint thread (deliver_word (state S.SlotStore live.old) thread 0)
+        (endpoint_at (state S.SlotStore live.old) endpoint).senders }
     ensures beside { Beside S.SlotStore live.old live.new }
 {
     match live.take_sender(endpoint) {

@@ -67,7 +67,8 @@ fn answer<S: SlotStore>(
 fn reply_to<S: SlotStore>(live: &mut Live<S>, thread: u32, caller: u32)
     requires { MayHandOver (state S.SlotStore live.old) thread caller }
     ensures state { state S.SlotStore live.new
-        ≡ replied (with_caller (state S.SlotStore live.old) thread None) thread caller (thread_at (state S.SlotStore live.old) caller).status (message_between (state S.SlotStore live.old) thread caller) }
+        ≡ replied (with_caller (state S.SlotStore live.old) thread None) thread caller (thread_at (state S.SlotStore live.old) caller).status
+        (message_between (state S.SlotStore live.old) thread caller) }
     ensures beside { Beside S.SlotStore live.old live.new }
 {
     let message = message_between(live, thread, caller);

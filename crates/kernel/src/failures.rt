@@ -45,7 +45,8 @@ pub(crate) fn trap<S: SlotStore>(kernel: &mut Kernel<S>, thread: u32, cause: Cau
     requires runs { IsRunning (state_in S.slots S.memory kernel.old) thread }
     ensures state { state_in S.slots S.memory kernel.new
         ≡ (faults (state_in S.slots S.memory kernel.old) thread (instruction_fault (registers_of (state_in S.slots S.memory kernel.old) thread).pc cause)).0 }
-    ensures outcome { result ≡ (faults (state_in S.slots S.memory kernel.old) thread (instruction_fault (registers_of (state_in S.slots S.memory kernel.old) thread).pc cause)).1 }
+    ensures outcome { result ≡ (faults (state_in S.slots S.memory kernel.old) thread
+        (instruction_fault (registers_of (state_in S.slots S.memory kernel.old) thread).pc cause)).1 }
 {
     let pc = kernel.pc(thread);
     fail(kernel, thread, Fault::Instruction { pc, cause })
@@ -56,7 +57,8 @@ pub(crate) fn miss<S: SlotStore>(kernel: &mut Kernel<S>, thread: u32, fault: Mem
     requires runs { IsRunning (state_in S.slots S.memory kernel.old) thread }
     ensures state { state_in S.slots S.memory kernel.new
         ≡ (faults (state_in S.slots S.memory kernel.old) thread (memory_fault (registers_of (state_in S.slots S.memory kernel.old) thread).pc fault)).0 }
-    ensures outcome { result ≡ (faults (state_in S.slots S.memory kernel.old) thread (memory_fault (registers_of (state_in S.slots S.memory kernel.old) thread).pc fault)).1 }
+    ensures outcome { result ≡ (faults (state_in S.slots S.memory kernel.old) thread
+        (memory_fault (registers_of (state_in S.slots S.memory kernel.old) thread).pc fault)).1 }
 {
     let pc = kernel.pc(thread);
     fail(kernel, thread, Fault::Memory { pc, fault })

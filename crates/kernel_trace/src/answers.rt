@@ -70,7 +70,8 @@ fn put_times<S: Sink>(
 /// Puts the lines of steps up to the first in which no thread runs, at most so many.
 fn put_settled<S: Sink>(system: &mut System, most: u32, sink: &mut S) -> Result<(), SinkFault>
     ensures state { OnOk result (state_in system.new ≡ state_after (state_in system.old) (settling most (state_in system.old))) }
-    ensures ok { OnOk result (Grows (S.contents sink.old) (S.contents sink.new) (lines_of (trace (state_in system.old) (settling most (state_in system.old))))) }
+    ensures ok { OnOk result (Grows (S.contents sink.old) (S.contents sink.new)
+        (lines_of (trace (state_in system.old) (settling most (state_in system.old))))) }
     ensures err { OnErr result (GrowsByBeginning (S.contents sink.old) (S.contents sink.new)
         (lines_of (trace (state_in system.old) (settling most (state_in system.old))))) }
     ensures kept { OnOk result (S.failures sink.new ≡ S.failures sink.old) }

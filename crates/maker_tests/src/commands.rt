@@ -89,7 +89,8 @@ fn wrong_words_are_answered_by_what_is_wrong(rt: HostRuntime) -> Result<(), Fail
         "status 2\nerror: unrecognized subcommand 'zzz'\n\nUsage: microsys_tool <COMMAND>\n\nFor more information, try '--help'.\n";
     answers(&rt, "zzz", told)?;
     let told =
-        "status 2\nerror: the following required arguments were not provided:\n  <IMAGE>\n\nUsage: microsys_tool make <SYSTEM> <IMAGE>\n\nFor more information, try '--help'.\n";
+        "status 2\nerror: the following required arguments were not provided:\n  <IMAGE>\n\nUsage: microsys_tool make <SYSTEM> <IMAGE>\n\n\
+         For more information, try '--help'.\n";
     answers(&rt, "make a.sys", told)?;
     let version = answer_to(&rt, "--version")?;
     assert!(&rt; version.starts_with("microsys_tool "), "{version}");

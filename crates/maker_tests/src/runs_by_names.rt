@@ -237,7 +237,8 @@ fn lines_at_fault_are_explained(rt: HostRuntime) -> Result<(), Fail> {
     let word = "no word: a number from 0 to 4294967295, decimal or after `0x`";
     let address = "no address of a word: a multiple of 4 below 4294967296, decimal or after `0x`";
     let event =
-        "no event: `step [N]`, `tick`, `irq LINE`, `write PAGE INDEX WORD` or `write ADDRESS WORD`, `read PAGE INDEX` or `read ADDRESS`, with one blank between words";
+        "no event: `step [N]`, `tick`, `irq LINE`, `write PAGE INDEX WORD` or `write ADDRESS WORD`, `read PAGE INDEX` or `read ADDRESS`, with one blank \
+         between words";
     for (line, why) in [
         (
             "write sensr 0 1",

@@ -100,7 +100,8 @@ fn greatest_part<L: Linear>(
 ) -> i128
     requires register { register_of (variable_of variable) < 32 }
     requires others { is_named named.now (variable_of variable) ≡ false → (L.form form.now).coefficient (variable_of variable) ≡ pos 0 }
-    ensures value { result ≡ greatest_term ((L.form form.now).coefficient (variable_of variable)) (range_of bounds.now (register_numbered (register_of (variable_of variable)))) }
+    ensures value { result ≡ greatest_term ((L.form form.now).coefficient (variable_of variable))
+        (range_of bounds.now (register_numbered (register_of (variable_of variable)))) }
     ensures small { IsSmall (2 ^ 96) result }
 {
     if named.contains(variable) {

@@ -67,7 +67,8 @@ pub(crate) struct Change<'a, S: Step> {
 }
 
 impl<'a, S: Step> Linear for Change<'a, S> {
-    ghost form = { λ c. difference_form (substituted (measure_of c.behind.measure.now) (S.value_of c.behind.step.now)) (substituted (measure_of c.before.now) before_form) };
+    ghost form = { λ c. difference_form (substituted (measure_of c.behind.measure.now) (S.value_of c.behind.step.now))
+        (substituted (measure_of c.before.now) before_form) };
 
     fn constant(&self) -> i128 {
         constant_of(self.behind.measure, self.behind.step) - constant_of(self.before, &Unchanged)

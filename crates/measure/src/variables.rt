@@ -56,7 +56,8 @@ impl Variables {
 
     /// One more, if there is such a register.
     fn add(&mut self, variable: Variable)
-        ensures { (other : FormVariable) → register_of other < 32 → is_named self.new other ≡ (is_named self.old other || is_variable other (variable_of variable)) }
+        ensures { (other : FormVariable) → register_of other < 32
+            → is_named self.new other ≡ (is_named self.old other || is_variable other (variable_of variable)) }
     {
         match variable {
             Variable::Before(register) if register < 32 => self.before[register as usize] = true,
@@ -67,7 +68,8 @@ impl Variables {
 
     /// Those that a value counts.
     pub(crate) fn add_value(&mut self, value: Value)
-        ensures { (variable : FormVariable) → register_of variable < 32 → is_named self.new variable ≡ false → (is_named self.old variable ≡ false) × ((form_of value).coefficient variable ≡ pos 0) }
+        ensures { (variable : FormVariable) → register_of variable < 32 → is_named self.new variable ≡ false
+            → (is_named self.old variable ≡ false) × ((form_of value).coefficient variable ≡ pos 0) }
     {
         match value {
             Value::Same(register) => self.add(Variable::Before(register)),

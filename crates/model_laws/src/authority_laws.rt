@@ -1,7 +1,8 @@
 //! What authority rules out, case by case.
 
 ghost use Rattle.std.specs.Prelude.{ℕ, ◌≡◌, ◌≢◌, ◌+◌, ◌*◌, ◌^◌, ◌<◌, ◌≤◌, ◌⊎◌, true, false, bit_or, [], ◌∷◌, Contains, List, Some, None, Ok, Err};
-ghost use Rattle.model.specs.declared.capabilities.Cap.TheVariants.{CNode, Empty, Endpoint, Frame, InterruptControl, InterruptHandler, Notification, PageTable, Tcb, Untyped};
+ghost use Rattle.model.specs.declared.capabilities.Cap.TheVariants.{CNode, Empty, Endpoint, Frame, InterruptControl};
+ghost use Rattle.model.specs.declared.capabilities.Cap.TheVariants.{InterruptHandler, Notification, PageTable, Tcb, Untyped};
 ghost use Rattle.model.specs.declared.rights.Rights.{Rights};
 ghost use Rattle.model.specs.declared.lookup_failures.LookupFailure.{LookupFailure};
 ghost use Rattle.model.specs.Acceptance.Authority.{IsOwnSlot, WithinAuthority, self_of};
@@ -16,7 +17,9 @@ ghost use Rattle.model.specs.Kernel.Kinds.{frame_around};
 ghost use Rattle.model.specs.Kernel.Messages.{a0, buffer_of, delivered, length_between, message_between};
 ghost use Rattle.model.specs.Kernel.Scheduling.{current, full_slice};
 ghost use Rattle.model.specs.Kernel.Soundness.{IsSound};
-ghost use Rattle.model.specs.Kernel.State.{State, Inactive, Blocked, AwaitsReply, Sender, BySend, ByCall, ByFault, FaultMessage, CNodeObject, EndpointObject, EndpointState, FrameObject, NotificationObject, NotificationState, ThreadObject, ThreadState, endpoint_at, thread_at};
+ghost use Rattle.model.specs.Kernel.State.{State, Inactive, Blocked, AwaitsReply, Sender, BySend, ByCall, ByFault, FaultMessage};
+ghost use Rattle.model.specs.Kernel.State.{CNodeObject, EndpointObject, EndpointState, FrameObject, NotificationObject};
+ghost use Rattle.model.specs.Kernel.State.{NotificationState, ThreadObject, ThreadState, endpoint_at, thread_at};
 ghost use Rattle.model.specs.Kernel.Steps.{named_slot};
 ghost use Rattle.model.specs.Machine.Effects.{advanced};
 ghost use Rattle.model.specs.Machine.ProgramMemory.{write};

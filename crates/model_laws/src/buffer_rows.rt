@@ -91,7 +91,8 @@ pub fn a_buffer_is_a_copy_that_is_not_mapped()
     ensures taken { set_buffer_to (with_buffer (before_buffer (mapped_frame 3)) client server_frame) 3 ≡ Err DeleteFirst }
     ensures copy { capability_at (state_or (before_buffer (mapped_frame 3)) (set_buffer_to (before_buffer (mapped_frame 3)) 3)).slots (buffer_slot client)
         ≡ Frame client_frame frame_rights None }
-    ensures child { parent_at (state_or (before_buffer (mapped_frame 3)) (set_buffer_to (before_buffer (mapped_frame 3)) 3)).slots (buffer_slot client) ≡ Some 3 }
+    ensures child { parent_at (state_or (before_buffer (mapped_frame 3)) (set_buffer_to (before_buffer (mapped_frame 3)) 3)).slots (buffer_slot client)
+        ≡ Some 3 }
     ensures source { (state_or (before_buffer (mapped_frame 3)) (set_buffer_to (before_buffer (mapped_frame 3)) 3)).slots 3
         ≡ (before_buffer (mapped_frame 3)).slots 3 }
 {}

@@ -2,8 +2,10 @@
 
 ghost use Rattle.std.specs.Prelude.{◌≡◌, None, Some};
 ghost use Rattle.model.specs.Acceptance.Accepted.{first_in, phases};
-ghost use Rattle.model.specs.declared.refusals.Refusal.TheVariants.{BadCap, BadMapping, BadObject, BadThread, NoRoom, SharedVSpace, UntypedOverlap, WritableCode};
-ghost use Rattle.model_laws.specs.Variants.{capability, frame, with_capability, with_content, with_frames, with_interrupt, with_other_root, with_radix, with_table, with_tables, with_thread, with_untyped};
+ghost use Rattle.model.specs.declared.refusals.Refusal.TheVariants.{BadCap, BadMapping, BadObject, BadThread, NoRoom};
+ghost use Rattle.model.specs.declared.refusals.Refusal.TheVariants.{SharedVSpace, UntypedOverlap, WritableCode};
+ghost use Rattle.model_laws.specs.Variants.{capability, frame, with_capability, with_content, with_frames, with_interrupt};
+ghost use Rattle.model_laws.specs.Variants.{with_other_root, with_radix, with_table, with_tables, with_thread, with_untyped};
 ghost use Rattle.model_laws.specs.Worker.{two_pools};
 
 /// Untyped memory that is misaligned or passes the end of memory, an object without room, too few boot slots.

@@ -8,7 +8,8 @@ ghost use Rattle.model.specs.Acceptance.Devices.{KeepsDevices, is_device_word};
 ghost use Rattle.model.specs.Images.Described.{described};
 ghost use Rattle.model.specs.Images.Image.{Image, Thread};
 ghost use Rattle.model.specs.Images.Places.{offset_of};
-ghost use Rattle.model_laws.specs.GalleryKeyStore.{ClientsChangeNoByte, OtherBytesStay, PoolWaitsForTheVault, admin_with, is_of_keys, key_store, user_with, vault_with};
+ghost use Rattle.model_laws.specs.GalleryKeyStore.{ClientsChangeNoByte, OtherBytesStay, PoolWaitsForTheVault, admin_with};
+ghost use Rattle.model_laws.specs.GalleryKeyStore.{is_of_keys, key_store, user_with, vault_with};
 ghost use Rattle.model_laws.specs.Vault.{OnlyClientRuns, client, store, vault, vault_bytes};
 
 use headline::authority::events_stay_within_authority;
@@ -42,7 +43,8 @@ pub fn a_client_changes_no_key()
 /// In the gallery's key store, whatever the programs, the vault may write its pool alone, and its clients no byte at all; no page is a device's.
 #[tactic(auto, unfolding(crate::proofs::Opened::opened))]
 pub fn clients_may_not_write_keys()
-    ensures vault { (rest : Image) (vault user admin : Thread) (place : ℕ) → may_write_at (key_store rest vault user admin) (vault_with vault) place ≡ is_of_keys place }
+    ensures vault { (rest : Image) (vault user admin : Thread) (place : ℕ)
+        → may_write_at (key_store rest vault user admin) (vault_with vault) place ≡ is_of_keys place }
     ensures user { (rest : Image) (vault user admin : Thread) (place : ℕ) → may_write_at (key_store rest vault user admin) (user_with user) place ≡ false }
     ensures admin { (rest : Image) (vault user admin : Thread) (place : ℕ) → may_write_at (key_store rest vault user admin) (admin_with admin) place ≡ false }
     ensures devices { (rest : Image) (vault user admin : Thread) (place : ℕ) → is_device_word (key_store rest vault user admin) place ≡ false }

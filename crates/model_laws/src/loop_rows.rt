@@ -5,7 +5,8 @@ ghost use Rattle.model.specs.Acceptance.Accepted.{first_in, phases};
 ghost use Rattle.model.specs.Images.Format.{reading};
 ghost use Rattle.model.specs.Images.Image.{whole_image};
 ghost use Rattle.model.specs.declared.errors.KError.TheVariants.{IllegalOperation};
-ghost use Rattle.model.specs.declared.refusals.Refusal.TheVariants.{CallRefused, CapNotThere, ComputedJump, IllegalInstruction, MeasureNotFalling, NotMapped, PoolLost, SharedCSpace};
+ghost use Rattle.model.specs.declared.refusals.Refusal.TheVariants.{CallRefused, CapNotThere, ComputedJump, IllegalInstruction};
+ghost use Rattle.model.specs.declared.refusals.Refusal.TheVariants.{MeasureNotFalling, NotMapped, PoolLost, SharedCSpace};
 ghost use Rattle.model_laws.specs.Solo.{at_point, two_threads, yielding};
 ghost use Rattle.model_laws.specs.Worker.{loop_image, loop_with};
 

@@ -13,10 +13,12 @@ pub fn a_measure_without_terms_is_its_constant()
 
 /// Between measures without terms, what falls is the constant.
 pub fn constants_fall()
-    ensures { (from to : Measure) (value_of : ℕ → Form) (before behind : List Range) → from.terms ≡ [] → to.terms ≡ [] → falls from to value_of before behind ≡ int_lt to.constant from.constant }
+    ensures { (from to : Measure) (value_of : ℕ → Form) (before behind : List Range) → from.terms ≡ [] → to.terms ≡ []
+        → falls from to value_of before behind ≡ int_lt to.constant from.constant }
 {}
 
 /// A measure without terms stays below a budget where its constant does.
 pub fn a_constant_stays_below()
-    ensures { (budget : ℕ) (to : Measure) (value_of : ℕ → Form) (before behind : List Range) → to.terms ≡ [] → stays_below budget to value_of before behind ≡ int_le to.constant (pos budget) }
+    ensures { (budget : ℕ) (to : Measure) (value_of : ℕ → Form) (before behind : List Range) → to.terms ≡ []
+        → stays_below budget to value_of before behind ≡ int_le to.constant (pos budget) }
 {}

@@ -1,7 +1,8 @@
 //! What authority rules out, part by part: who delivers and who gets it, the registers of each reason, what ends, rights, numbers of calls, lines,
 //! instructions, ticks and the world.
 
-ghost use Rattle.std.specs.Prelude.{ℕ, ℤ, ◌≡◌, ◌≢◌, ◌+◌, ◌*◌, ◌%◌, ◌^◌, ◌<◌, ◌≤◌, ◌⊎◌, true, false, bit_or, [], ◌∷◌, Contains, List, Option, Some, None, Ok, Err};
+ghost use Rattle.std.specs.Prelude.{ℕ, ℤ, ◌≡◌, ◌≢◌, ◌+◌, ◌*◌, ◌%◌, ◌^◌, ◌<◌, ◌≤◌, ◌⊎◌, true, false, bit_or, []};
+ghost use Rattle.std.specs.Prelude.{◌∷◌, Contains, List, Option, Some, None, Ok, Err};
 ghost use Rattle.model.specs.declared.capabilities.Cap.TheVariants.{Empty, Endpoint, Frame, InterruptHandler, Notification, Untyped};
 ghost use Rattle.model.specs.declared.events.Event.TheVariants.{Irq, Read, Step, Tick, Write};
 ghost use Rattle.model.specs.declared.instructions.Access.TheVariants as accesses;
@@ -28,7 +29,8 @@ ghost use Rattle.model.specs.Kernel.Kinds.{kind_at};
 ghost use Rattle.model.specs.Kernel.Messages.{a0, buffer_of, delivered, length_between, message_between, register_words};
 ghost use Rattle.model.specs.Kernel.Retype.{NewEndpoint, NewNotification};
 ghost use Rattle.model.specs.Kernel.Scheduling.{current};
-ghost use Rattle.model.specs.Kernel.State.{State, Runnable, Blocked, AwaitsReply, Sender, EndpointObject, EndpointState, FrameObject, NotificationObject, NotificationState, ThreadObject, ThreadState, endpoint_at, notification_at, thread_at};
+ghost use Rattle.model.specs.Kernel.State.{State, Runnable, Blocked, AwaitsReply, Sender, EndpointObject, EndpointState, FrameObject, NotificationObject};
+ghost use Rattle.model.specs.Kernel.State.{NotificationState, ThreadObject, ThreadState, endpoint_at, notification_at, thread_at};
 ghost use Rattle.model.specs.Kernel.Steps.{named_slot, place_of, registers_of};
 ghost use Rattle.model.specs.Machine.Decoding.{decoded};
 ghost use Rattle.model.specs.Machine.Effects.{advanced, plus};

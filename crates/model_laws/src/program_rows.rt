@@ -2,8 +2,10 @@
 
 ghost use Rattle.std.specs.Prelude.{◌≡◌, ◌+◌, ◌-◌, ◌^◌, [], ◌∷◌, None, Some, negsuc, pos};
 ghost use Rattle.model.specs.Acceptance.Accepted.{first_in, phases};
-ghost use Rattle.model.specs.declared.refusals.Refusal.TheVariants.{BadTarget, CapNotThere, IllegalInstruction, MeasureNotFalling, NotMapped, OverBudget, RangeNotKept};
-ghost use Rattle.model_laws.specs.Programs.{constant_at, empty_slot, entered_at, full_slot, nop, notification_slot, noted_as, program, range_entry, term, waiting};
+ghost use Rattle.model.specs.declared.refusals.Refusal.TheVariants.{BadTarget, CapNotThere, IllegalInstruction, MeasureNotFalling};
+ghost use Rattle.model.specs.declared.refusals.Refusal.TheVariants.{NotMapped, OverBudget, RangeNotKept};
+ghost use Rattle.model_laws.specs.Programs.{constant_at, empty_slot, entered_at, full_slot, nop, notification_slot};
+ghost use Rattle.model_laws.specs.Programs.{noted_as, program, range_entry, term, waiting};
 ghost use Rattle.model_laws.specs.Solo.{at_point};
 
 /// Waiting costs four instructions a round; a record after the wait may not have more than the budget.
@@ -39,13 +41,17 @@ pub fn measures_are_noted_anew()
 #[tactic(auto, unfolding(crate::proofs::Opened::opened))]
 pub fn accesses_are_mapped()
     ensures below { first_in (phases (program 9 (waiting (0xFFC02083 ∷ [])) (constant_at 0 3 ∷ constant_at 4 3 ∷ []))) ≡ Some (NotMapped (at_point 0 4)) }
-    ensures last { first_in (phases (program 9 (waiting (0x00032083 ∷ [])) (constant_at 0 3 ∷ noted_as 4 (pos 3) [] (range_entry 6 0x2000 0x2FFC ∷ []) [] ∷ [])))
+    ensures last { first_in (phases (program 9 (waiting (0x00032083 ∷ []))
+        (constant_at 0 3 ∷ noted_as 4 (pos 3) [] (range_entry 6 0x2000 0x2FFC ∷ []) [] ∷ [])))
         ≡ Some (BadTarget (at_point 0 4)) }
-    ensures past { first_in (phases (program 9 (waiting (0x00032083 ∷ [])) (constant_at 0 3 ∷ noted_as 4 (pos 3) [] (range_entry 6 0x2000 0x2FFD ∷ []) [] ∷ [])))
+    ensures past { first_in (phases (program 9 (waiting (0x00032083 ∷ []))
+        (constant_at 0 3 ∷ noted_as 4 (pos 3) [] (range_entry 6 0x2000 0x2FFD ∷ []) [] ∷ [])))
         ≡ Some (NotMapped (at_point 0 4)) }
-    ensures code { first_in (phases (program 9 (waiting (0x00132023 ∷ [])) (constant_at 0 3 ∷ noted_as 4 (pos 3) [] (range_entry 6 0x1000 0x1000 ∷ []) [] ∷ [])))
+    ensures code { first_in (phases (program 9 (waiting (0x00132023 ∷ []))
+        (constant_at 0 3 ∷ noted_as 4 (pos 3) [] (range_entry 6 0x1000 0x1000 ∷ []) [] ∷ [])))
         ≡ Some (NotMapped (at_point 0 4)) }
-    ensures unread { first_in (phases (program 9 (waiting (0x00032083 ∷ [])) (constant_at 0 3 ∷ noted_as 4 (pos 3) [] (range_entry 6 0x1000 0x1000 ∷ []) [] ∷ [])))
+    ensures unread { first_in (phases (program 9 (waiting (0x00032083 ∷ []))
+        (constant_at 0 3 ∷ noted_as 4 (pos 3) [] (range_entry 6 0x1000 0x1000 ∷ []) [] ∷ [])))
         ≡ Some (NotMapped (at_point 0 4)) }
 {}
 
@@ -57,9 +63,11 @@ pub fn slots_are_the_threads()
         ≡ Some (CapNotThere (at_point 0 4)) }
     ensures past_the_end { first_in (phases (program 4 (waiting (nop ∷ [])) (constant_at 0 3 ∷ noted_as 4 (pos 1) [] [] (empty_slot 5 16 ∷ []) ∷ [])))
         ≡ Some (CapNotThere (at_point 0 4)) }
-    ensures circle { first_in (phases (program 4 (waiting (nop ∷ [])) (constant_at 0 3 ∷ noted_as 4 (pos 1) [] [] (notification_slot 3 4 ∷ notification_slot 4 3 ∷ []) ∷ [])))
+    ensures circle { first_in (phases (program 4 (waiting (nop ∷ []))
+        (constant_at 0 3 ∷ noted_as 4 (pos 1) [] [] (notification_slot 3 4 ∷ notification_slot 4 3 ∷ []) ∷ [])))
         ≡ Some (CapNotThere (at_point 0 4)) }
-    ensures line { first_in (phases (program 4 (waiting (nop ∷ [])) (constant_at 0 3 ∷ noted_as 4 (pos 1) [] [] (notification_slot 3 4 ∷ notification_slot 4 1 ∷ []) ∷ [])))
+    ensures line { first_in (phases (program 4 (waiting (nop ∷ []))
+        (constant_at 0 3 ∷ noted_as 4 (pos 1) [] [] (notification_slot 3 4 ∷ notification_slot 4 1 ∷ []) ∷ [])))
         ≡ Some (BadTarget (at_point 0 4)) }
 {}
 

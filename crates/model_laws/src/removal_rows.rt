@@ -47,7 +47,8 @@ pub fn the_last_child_clears_the_watermark()
 #[tactic(auto, unfolding(crate::proofs::Opened::opened))]
 pub fn a_binding_goes_with_the_last_handler()
     ensures last { capability_at (state_or (handled_by (handler_in 2 ∷ [])) (delete (handled_by (handler_in 2 ∷ [])) 2)).slots 19 ≡ Empty }
-    ensures one_left { capability_at (state_or (handled_by (handler_in 2 ∷ handler_in 4 ∷ [])) (delete (handled_by (handler_in 2 ∷ handler_in 4 ∷ [])) 2)).slots 19
+    ensures one_left { capability_at (state_or (handled_by (handler_in 2 ∷ handler_in 4 ∷ [])) (delete (handled_by (handler_in 2 ∷ handler_in 4 ∷ [])) 2)).slots
+        19
         ≡ Notification 0x540 (rights 11) 1 }
 {}
 

@@ -88,7 +88,8 @@ impl Unread<'_> {
         let (word, wanted) = match self {
             Unread::NoEvent(line) => (
                 line,
-                "no event: `step [N]`, `tick`, `irq LINE`, `write PAGE INDEX WORD` or `write ADDRESS WORD`, `read PAGE INDEX` or `read ADDRESS`, with one blank between words",
+                "no event: `step [N]`, `tick`, `irq LINE`, `write PAGE INDEX WORD` or `write ADDRESS WORD`, `read PAGE INDEX` or `read ADDRESS`, with one \
+                 blank between words",
             ),
             Unread::Count(word) => (word, "no number of steps: 1 to 1000000"),
             Unread::Index(word) => (word, "no word of a page: a number from 0 to 1023"),

@@ -41,7 +41,10 @@ pub fn what_stands_beside_other_bytes()
 /// Where only bytes of frames change, the state changes in these alone.
 pub fn a_state_follows_its_frames()
     ensures { (o : Tables) (slots : Slots) (old new : List ℕ) → Standing o slots old → SameBesideFrames (state_of o slots old) old new
-        → state_of o slots new ≡ record (state_of o slots old) { bytes = λ place. option_map (λ _. slice_index new place) ((state_of o slots old).bytes place) } }
+        → state_of o slots new ≡ record (state_of o slots old) {
+          bytes = λ place. option_map (λ _. slice_index new place)
+              ((state_of o slots old).bytes place);
+        } }
 {}
 
 /// The invariant of objects still holds then.
@@ -51,5 +54,6 @@ pub fn what_stands_beside_frames()
 
 /// A byte of a frame is memory's.
 pub fn a_byte_is_in_memory()
-    ensures { (o : Tables) (slots : Slots) (memory : List ℕ) (place byte : ℕ) → (state_of o slots memory).bytes place ≡ Some byte → byte ≡ slice_index memory place }
+    ensures { (o : Tables) (slots : Slots) (memory : List ℕ) (place byte : ℕ) → (state_of o slots memory).bytes place ≡ Some byte
+        → byte ≡ slice_index memory place }
 {}

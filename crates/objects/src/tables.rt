@@ -192,7 +192,8 @@ impl Objects {
     pub(crate) fn forget_at<S: SlotStore>(&mut self, store: &mut S, offset: u32)
         requires stands { Standing self.old (S.slots store.old) (S.memory store.old) }
         ensures state { state_of self.new (S.slots store.new) (S.memory store.new)
-            ≡ all_leave (state_of self.old (S.slots store.old) (S.memory store.old)) (ends_thread (state_of self.old (S.slots store.old) (S.memory store.old)) offset) }
+            ≡ all_leave (state_of self.old (S.slots store.old) (S.memory store.old))
+            (ends_thread (state_of self.old (S.slots store.old) (S.memory store.old)) offset) }
         ensures slots { S.slots store.new ≡ S.slots store.old }
         ensures bytes { SameBesideRecords (state_of self.old (S.slots store.old) (S.memory store.old)) (S.memory store.old) (S.memory store.new) }
         ensures order { S.order store.new ≡ S.order store.old }

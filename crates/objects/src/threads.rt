@@ -30,7 +30,8 @@ impl Objects {
     pub(crate) fn set_status_at<S: SlotStore>(&mut self, store: &mut S, offset: u32, status: Status)
         requires { IsThere self.old (S.slots store.old) (S.memory store.old) NewThread offset }
         ensures state { state_of self.new (S.slots store.new) (S.memory store.new)
-            ≡ with_thread (state_of self.old (S.slots store.old) (S.memory store.old)) offset (record (thread_at (state_of self.old (S.slots store.old) (S.memory store.old)) offset) { status = status_of status }) }
+            ≡ with_thread (state_of self.old (S.slots store.old) (S.memory store.old)) offset
+            (record (thread_at (state_of self.old (S.slots store.old) (S.memory store.old)) offset) { status = status_of status }) }
         ensures slots { S.slots store.new ≡ S.slots store.old }
         ensures bytes { SameBesideRecords (state_of self.old (S.slots store.old) (S.memory store.old)) (S.memory store.old) (S.memory store.new) }
         ensures order { S.order store.new ≡ S.order store.old }
@@ -43,7 +44,8 @@ impl Objects {
     pub(crate) fn set_slice_at<S: SlotStore>(&mut self, store: &mut S, offset: u32, slice: u8)
         requires { IsThere self.old (S.slots store.old) (S.memory store.old) NewThread offset }
         ensures state { state_of self.new (S.slots store.new) (S.memory store.new)
-            ≡ with_thread (state_of self.old (S.slots store.old) (S.memory store.old)) offset (record (thread_at (state_of self.old (S.slots store.old) (S.memory store.old)) offset) { slice = slice }) }
+            ≡ with_thread (state_of self.old (S.slots store.old) (S.memory store.old)) offset
+            (record (thread_at (state_of self.old (S.slots store.old) (S.memory store.old)) offset) { slice = slice }) }
         ensures slots { S.slots store.new ≡ S.slots store.old }
         ensures bytes { SameBesideRecords (state_of self.old (S.slots store.old) (S.memory store.old)) (S.memory store.old) (S.memory store.new) }
         ensures order { S.order store.new ≡ S.order store.old }
@@ -56,7 +58,8 @@ impl Objects {
     pub(crate) fn set_priority_at<S: SlotStore>(&mut self, store: &mut S, offset: u32, priority: u8)
         requires { IsThere self.old (S.slots store.old) (S.memory store.old) NewThread offset }
         ensures state { state_of self.new (S.slots store.new) (S.memory store.new)
-            ≡ with_thread (state_of self.old (S.slots store.old) (S.memory store.old)) offset (record (thread_at (state_of self.old (S.slots store.old) (S.memory store.old)) offset) { priority = priority }) }
+            ≡ with_thread (state_of self.old (S.slots store.old) (S.memory store.old)) offset
+            (record (thread_at (state_of self.old (S.slots store.old) (S.memory store.old)) offset) { priority = priority }) }
         ensures slots { S.slots store.new ≡ S.slots store.old }
         ensures bytes { SameBesideRecords (state_of self.old (S.slots store.old) (S.memory store.old)) (S.memory store.old) (S.memory store.new) }
         ensures order { S.order store.new ≡ S.order store.old }
@@ -76,7 +79,8 @@ impl Objects {
     /// A thread leaves the ready list.
     pub(crate) fn unready<S: SlotStore>(&mut self, store: &mut S, offset: u32)
         requires stands { Standing self.old (S.slots store.old) (S.memory store.old) }
-        ensures state { state_of self.new (S.slots store.new) (S.memory store.new) ≡ unready (state_of self.old (S.slots store.old) (S.memory store.old)) offset }
+        ensures state { state_of self.new (S.slots store.new) (S.memory store.new)
+            ≡ unready (state_of self.old (S.slots store.old) (S.memory store.old)) offset }
         ensures slots { S.slots store.new ≡ S.slots store.old }
         ensures bytes { SameBesideRecords (state_of self.old (S.slots store.old) (S.memory store.old)) (S.memory store.old) (S.memory store.new) }
         ensures order { S.order store.new ≡ S.order store.old }
@@ -88,7 +92,8 @@ impl Objects {
     /// A thread goes to the tail of its priority.
     pub(crate) fn to_tail_at<S: SlotStore>(&mut self, store: &mut S, offset: u32)
         requires { IsThere self.old (S.slots store.old) (S.memory store.old) NewThread offset }
-        ensures state { state_of self.new (S.slots store.new) (S.memory store.new) ≡ to_tail (state_of self.old (S.slots store.old) (S.memory store.old)) offset }
+        ensures state { state_of self.new (S.slots store.new) (S.memory store.new)
+            ≡ to_tail (state_of self.old (S.slots store.old) (S.memory store.old)) offset }
         ensures slots { S.slots store.new ≡ S.slots store.old }
         ensures bytes { SameBesideRecords (state_of self.old (S.slots store.old) (S.memory store.old)) (S.memory store.old) (S.memory store.new) }
         ensures order { S.order store.new ≡ S.order store.old }

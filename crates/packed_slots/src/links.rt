@@ -2,7 +2,8 @@
 
 ghost use Rattle.std.specs.Prelude.{◌≡◌, ◌+◌, ◌*◌, ◌<◌, ◌≤◌, length};
 ghost use Rattle.std.specs.Option.{ForSome};
-ghost use Rattle.packed_slots.specs.Words.{first_without, linked_behind, linked_first, lowered_memory, next_in, previous_in, unlinked, with_back_at, with_next_at, word_of, words_in};
+ghost use Rattle.packed_slots.specs.Words.{first_without, linked_behind, linked_first, lowered_memory, next_in, previous_in};
+ghost use Rattle.packed_slots.specs.Words.{unlinked, with_back_at, with_next_at, word_of, words_in};
 ghost use Rattle.slots.specs.preorder.Chains.{back_above};
 
 use crate::words::{SlotMemory, blank, depth, next, previous, put_back, put_link};

@@ -3,7 +3,8 @@
 ghost use Rattle.std.specs.Prelude.{ℕ, ◌≡◌, ◌+◌, ◌*◌, ◌%◌, ◌^◌, ◌<◌, ◌≤◌, [], ◌∷◌, drop, length, max, replicate, take};
 ghost use Rattle.model.specs.Shared.Bytes.{word_bytes, written};
 ghost use Rattle.pmem.specs.Words.{words_bytes};
-ghost use Rattle.packed_slots.specs.Words.{back_word, blanked, depth_in, is_one, link_word, next_in, previous_in, with_back, with_back_at, with_link, with_next_at, with_word, word_of};
+ghost use Rattle.packed_slots.specs.Words.{back_word, blanked, depth_in, is_one, link_word, next_in, previous_in, with_back};
+ghost use Rattle.packed_slots.specs.Words.{with_back_at, with_link, with_next_at, with_word, word_of};
 
 use model::Slot;
 use pmem::Mem;

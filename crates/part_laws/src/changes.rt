@@ -1,6 +1,7 @@
 //! What a call is made of, in the whole and in the part alone.
 
-ghost use Rattle.part_laws.specs.Changes.{BlocksAgree, InterruptsAgree, ReceivesAgree, RepliesAgree, SameRuns, SendsAgree, SignalsAgree, TicksAgree, WaitsAgree, WakesAgree};
+ghost use Rattle.part_laws.specs.Changes.{BlocksAgree, InterruptsAgree, ReceivesAgree, RepliesAgree, SameRuns};
+ghost use Rattle.part_laws.specs.Changes.{SendsAgree, SignalsAgree, TicksAgree, WaitsAgree, WakesAgree};
 
 /// What a call is made of keeps that the whole and the part alone agree, and so does a tick in which a thread of the part runs.
 pub fn changes_of_a_part_agree()

@@ -191,7 +191,8 @@ fn all_uses(alloc: Global, image: &ImageRef<'_>) -> Result<Vec<Uses>, Refusal>
 pub fn parts_of<'i, 'a>(alloc: Global, accepted: &'i Accepted<'a>) -> Result<Parts<'i, 'a>, Refusal>
     ensures image { IfOk result (λ image. image ≡ accepted.now) }
     // Whatever happens, no thread ever holds more than its image lists for it.
-    ensures held { IfOk result (λ image. (events : List Event) → All (KeepsDevices accepted.now) events → AllHoldGiven accepted.now (state_after (described accepted.now) events)) }
+    ensures held { IfOk result (λ image. (events : List Event) → All (KeepsDevices accepted.now) events
+        → AllHoldGiven accepted.now (state_after (described accepted.now) events)) }
     ensures memory { IfErr result (λ refusal. refusal ≡ OutOfMemory) }
 {
     threads_never_hold_more();

@@ -103,9 +103,12 @@ fn note_listed(
     takes: &mut NumberSet,
     changes: &mut NumberSet,
 ) -> Result<(), Refusal>
-    ensures sources { OnOk result ((n : ℕ) → is_member n sources.new ≡ (is_member n sources.old || list_any (λ c. c.cnode == cnode && c.source == n) image.now.capabilities)) }
-    ensures takes { OnOk result ((n : ℕ) → is_member n takes.new ≡ (is_member n takes.old || list_any (λ c. c.cnode == cnode && (takes_by image.now c && c.source == n)) image.now.capabilities)) }
-    ensures changes { OnOk result ((n : ℕ) → is_member n changes.new ≡ (is_member n changes.old || list_any (λ c. c.cnode == cnode && (changes_by image.now c && c.source == n)) image.now.capabilities)) }
+    ensures sources { OnOk result ((n : ℕ) → is_member n sources.new
+        ≡ (is_member n sources.old || list_any (λ c. c.cnode == cnode && c.source == n) image.now.capabilities)) }
+    ensures takes { OnOk result ((n : ℕ) → is_member n takes.new
+        ≡ (is_member n takes.old || list_any (λ c. c.cnode == cnode && (takes_by image.now c && c.source == n)) image.now.capabilities)) }
+    ensures changes { OnOk result ((n : ℕ) → is_member n changes.new
+        ≡ (is_member n changes.old || list_any (λ c. c.cnode == cnode && (changes_by image.now c && c.source == n)) image.now.capabilities)) }
     ensures memory { IfErr result (λ refusal. refusal ≡ OutOfMemory) }
 {
     let listed = listed_in(image, cnode);
@@ -123,9 +126,12 @@ fn note_capabilities(
     takes: &mut NumberSet,
     changes: &mut NumberSet,
 ) -> Result<(), Refusal>
-    ensures sources { OnOk result ((n : ℕ) → is_member n sources.new ≡ (is_member n sources.old || list_any (λ c. is_member c.cnode cnodes.now && c.source == n) image.now.capabilities)) }
-    ensures takes { OnOk result ((n : ℕ) → is_member n takes.new ≡ (is_member n takes.old || list_any (λ c. is_member c.cnode cnodes.now && (takes_by image.now c && c.source == n)) image.now.capabilities)) }
-    ensures changes { OnOk result ((n : ℕ) → is_member n changes.new ≡ (is_member n changes.old || list_any (λ c. is_member c.cnode cnodes.now && (changes_by image.now c && c.source == n)) image.now.capabilities)) }
+    ensures sources { OnOk result ((n : ℕ) → is_member n sources.new
+        ≡ (is_member n sources.old || list_any (λ c. is_member c.cnode cnodes.now && c.source == n) image.now.capabilities)) }
+    ensures takes { OnOk result ((n : ℕ) → is_member n takes.new
+        ≡ (is_member n takes.old || list_any (λ c. is_member c.cnode cnodes.now && (takes_by image.now c && c.source == n)) image.now.capabilities)) }
+    ensures changes { OnOk result ((n : ℕ) → is_member n changes.new
+        ≡ (is_member n changes.old || list_any (λ c. is_member c.cnode cnodes.now && (changes_by image.now c && c.source == n)) image.now.capabilities)) }
     ensures memory { IfErr result (λ refusal. refusal ≡ OutOfMemory) }
 {
     for place in 0..cnodes.len() {
@@ -149,7 +155,8 @@ fn note_frame(
     changes: &mut NumberSet,
 ) -> Result<(), Refusal>
     ensures takes { OnOk result ((n : ℕ) → is_member n takes.new ≡ (is_member n takes.old || (entry.root == root && entry.frame == n))) }
-    ensures changes { OnOk result ((n : ℕ) → is_member n changes.new ≡ (is_member n changes.old || ((entry.root == root && may_write (rights entry.rights)) && entry.frame == n))) }
+    ensures changes { OnOk result ((n : ℕ) → is_member n changes.new
+        ≡ (is_member n changes.old || ((entry.root == root && may_write (rights entry.rights)) && entry.frame == n))) }
     ensures memory { IfErr result (λ refusal. refusal ≡ OutOfMemory) }
 {
     put_if(takes, entry.root == root, entry.frame)?;
@@ -164,7 +171,8 @@ fn note_frames(
     changes: &mut NumberSet,
 ) -> Result<(), Refusal>
     ensures takes { OnOk result ((n : ℕ) → is_member n takes.new ≡ (is_member n takes.old || list_any (λ f. f.root == root && f.frame == n) image.now.frames)) }
-    ensures changes { OnOk result ((n : ℕ) → is_member n changes.new ≡ (is_member n changes.old || list_any (λ f. (f.root == root && may_write (rights f.rights)) && f.frame == n) image.now.frames)) }
+    ensures changes { OnOk result ((n : ℕ) → is_member n changes.new
+        ≡ (is_member n changes.old || list_any (λ f. (f.root == root && may_write (rights f.rights)) && f.frame == n) image.now.frames)) }
     ensures memory { IfErr result (λ refusal. refusal ≡ OutOfMemory) }
 {
     for entry in image.frames() {
@@ -190,7 +198,9 @@ fn note_lines(
     sources: &NumberSet,
     changes: &mut NumberSet,
 ) -> Result<(), Refusal>
-    ensures changes { OnOk result ((n : ℕ) → is_member n changes.new ≡ (is_member n changes.old || list_any (λ i. is_member (image.now.header.objects + i.0) sources.now && (i.1).notification == n) (numbered image.now.interrupts))) }
+    ensures changes { OnOk result ((n : ℕ) → is_member n changes.new
+        ≡ (is_member n changes.old || list_any (λ i. is_member (image.now.header.objects + i.0) sources.now && (i.1).notification == n)
+        (numbered image.now.interrupts))) }
     ensures memory { IfErr result (λ refusal. refusal ≡ OutOfMemory) }
 {
     let header = header_of(image);

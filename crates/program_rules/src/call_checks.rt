@@ -30,9 +30,12 @@ impl Seen<'_, '_, '_, '_, '_> {
     /// that it breaks, or says that memory was refused.
     fn way_behind(&self, point: u32, known: &Known, behind: &Behind) -> Result<(), Refusal>
         requires { point < self.now.program.now.given.space.thread.now.header.words }
-        ensures { Answers (first_broken (edge_rules self.now.program.now.given.space.thread.now (point_of (thread_of self.now.program.now) point) (measure_of known.now.measure)
-            (call_edge (address_of self.now.program.now.given.space.thread.now point) known.now.bounds (behind_with (replayed self.now.program.now.given.slots.now (part_of self.now.points.now.log self.now.part)) behind.now))
-            (noted_at self.now.program.now.given.space.image.now (thread_of self.now.program.now) (address_of self.now.program.now.given.space.thread.now point + 4)))) result }
+        ensures { Answers (first_broken (edge_rules self.now.program.now.given.space.thread.now (point_of (thread_of self.now.program.now) point)
+            (measure_of known.now.measure)
+            (call_edge (address_of self.now.program.now.given.space.thread.now point) known.now.bounds
+            (behind_with (replayed self.now.program.now.given.slots.now (part_of self.now.points.now.log self.now.part)) behind.now))
+            (noted_at self.now.program.now.given.space.image.now (thread_of self.now.program.now)
+            (address_of self.now.program.now.given.space.thread.now point + 4)))) result }
     {
         let way = Way {
             at: self.program.at(point),
@@ -62,13 +65,18 @@ impl<'a> Visit<'_, '_, 'a, '_> {
         behind: &Behind,
         made: &[LogEntry],
     ) -> Result<(), Refusal>
-        requires read { IsRead self.now.program.now.given.space.image.now (thread_of self.now.program.now) self.now.program.now.given.slots.now points.old.log points.old.kept }
+        requires read { IsRead self.now.program.now.given.space.image.now
+            (thread_of self.now.program.now) self.now.program.now.given.slots.now points.old.log points.old.kept }
         requires shown { Shows points.old.log known.now.part shown.old }
         ensures shown { IfOk result (λ _. ShowsSome points.new.log shown.new) }
-        ensures broken { Answers (first_broken (edge_rules self.now.program.now.given.space.thread.now (point_of (thread_of self.now.program.now) self.now.point) (measure_of known.now.measure)
-            (call_edge (address_of self.now.program.now.given.space.thread.now self.now.point) known.now.bounds (behind_with (replayed (replayed self.now.program.now.given.slots.now (part_of points.old.log known.now.part)) made.now) behind.now))
-            (noted_at self.now.program.now.given.space.image.now (thread_of self.now.program.now) (address_of self.now.program.now.given.space.thread.now self.now.point + 4)))) result }
-        ensures read { IfOk result (λ _. IsRead self.now.program.now.given.space.image.now (thread_of self.now.program.now) self.now.program.now.given.slots.now points.new.log points.new.kept) }
+        ensures broken { Answers (first_broken (edge_rules self.now.program.now.given.space.thread.now
+            (point_of (thread_of self.now.program.now) self.now.point) (measure_of known.now.measure)
+            (call_edge (address_of self.now.program.now.given.space.thread.now self.now.point) known.now.bounds
+            (behind_with (replayed (replayed self.now.program.now.given.slots.now (part_of points.old.log known.now.part)) made.now) behind.now))
+            (noted_at self.now.program.now.given.space.image.now (thread_of self.now.program.now)
+            (address_of self.now.program.now.given.space.thread.now self.now.point + 4)))) result }
+        ensures read { IfOk result (λ _. IsRead self.now.program.now.given.space.image.now
+            (thread_of self.now.program.now) self.now.program.now.given.slots.now points.new.log points.new.kept) }
         ensures others { IfOk result (λ _. KeepsParts points.old.log points.new.log) }
     {
         let part = points.log.follow(known.part, made)?;
@@ -90,13 +98,17 @@ impl<'a> Visit<'_, '_, 'a, '_> {
         shown: &mut ShownPart,
         known: &Known,
     ) -> Result<(), Refusal>
-        requires read { IsRead self.now.program.now.given.space.image.now (thread_of self.now.program.now) self.now.program.now.given.slots.now points.old.log points.old.kept }
+        requires read { IsRead self.now.program.now.given.space.image.now
+            (thread_of self.now.program.now) self.now.program.now.given.slots.now points.old.log points.old.kept }
         requires is { instruction_at self.now.program.now.given.space.thread.now self.now.point ≡ Some Ecall }
-        requires kept { IsKeptAt self.now.program.now.given.space.image.now (thread_of self.now.program.now) self.now.program.now.given.slots.now points.old.log self.now.point (kept.Known known.now) }
+        requires kept { IsKeptAt self.now.program.now.given.space.image.now
+            (thread_of self.now.program.now) self.now.program.now.given.slots.now points.old.log self.now.point (kept.Known known.now) }
         requires shown { Shows points.old.log known.now.part shown.old }
         ensures shown { IfOk result (λ _. ShowsSome points.new.log shown.new) }
-        ensures broken { Answers (first_broken (later_rules self.now.program.now.given.space.image.now (thread_of self.now.program.now) self.now.point (state_by self.now.program.now.given.slots.now points.old.log known.now) (Some Ecall))) result }
-        ensures read { IfOk result (λ _. IsRead self.now.program.now.given.space.image.now (thread_of self.now.program.now) self.now.program.now.given.slots.now points.new.log points.new.kept) }
+        ensures broken { Answers (first_broken (later_rules self.now.program.now.given.space.image.now (thread_of self.now.program.now) self.now.point
+            (state_by self.now.program.now.given.slots.now points.old.log known.now) (Some Ecall))) result }
+        ensures read { IfOk result (λ _. IsRead self.now.program.now.given.space.image.now
+            (thread_of self.now.program.now) self.now.program.now.given.slots.now points.new.log points.new.kept) }
         ensures others { IfOk result (λ _. KeepsParts points.old.log points.new.log) }
     {
         if self.leaves_next(points) {

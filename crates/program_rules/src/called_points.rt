@@ -126,7 +126,8 @@ impl CalledPoint {
     /// The measure after the call, if it is in range.
     fn measure(&self, program: &Program<'_, '_>, measure: &Measure) -> Option<Measure>
         ensures some { negsuc (2 ^ 63 - 2) ≤ℤ (measure_of measure.now).constant → is_some result ≡ true }
-        ensures measure { IfSome result (λ next. measure_of next ≡ measure_behind program.now.given.space.thread.now.header.budget self.now.is_wait (measure_of measure.now)) }
+        ensures measure { IfSome result (λ next. measure_of next
+            ≡ measure_behind program.now.given.space.thread.now.header.budget self.now.is_wait (measure_of measure.now)) }
     {
         if self.is_wait {
             return Some(Measure::new(program.given.space.thread.header().budget as i64));

@@ -20,7 +20,8 @@ use typestate::PlacedPromises;
 
 /// The rules on the program of a thread, by what the image gives the thread.
 fn check_given(alloc: Global, given: GivenThread<'_, '_>) -> Result<(), Refusal>
-    ensures { Answers (first_broken (rules_of_program given.entry.space.image.now (record { number = given.entry.number; thread = given.entry.space.thread.now }))) result }
+    ensures { Answers (first_broken (rules_of_program given.entry.space.image.now
+        (record { number = given.entry.number; thread = given.entry.space.thread.now }))) result }
 {
     let image = given.space.image;
     let thread = given.space.thread;
@@ -45,7 +46,8 @@ fn check_program<'a>(
     owner: PlacedThread<'_, '_, '_, 'a>,
 ) -> Result<(), Refusal>
     requires { AreOfImage owner.placed.now.image.now promises.now }
-    ensures { Answers (first_broken (rules_of_program owner.entry.placed.now.image.now (record { number = owner.entry.number; thread = owner.entry.thread.now }))) result }
+    ensures { Answers (first_broken (rules_of_program owner.entry.placed.now.image.now
+        (record { number = owner.entry.number; thread = owner.entry.thread.now }))) result }
 {
     let parts = ThreadParts::of(alloc, owner)?;
     check_given(alloc, parts.given(promises))

@@ -49,9 +49,11 @@ impl Known {
     fn pass(&mut self, pc: u32, instr: Instr) -> AtPoint<()>
         requires instr { IsInstr instr }
         requires measure { negsuc (2 ^ 63 - 2) ≤ℤ (measure_of self.old.measure).constant }
-        ensures same { (slots : List NotedSlot) (log : List LogEntry) → noted_by slots log (passed_as self.new result) ≡ follows_edge instr (state_by slots log self.old) (after pc instr self.old.bounds).fall_through }
+        ensures same { (slots : List NotedSlot) (log : List LogEntry)
+            → noted_by slots log (passed_as self.new result) ≡ follows_edge instr (state_by slots log self.old) (after pc instr self.old.bounds).fall_through }
         ensures sound { (log : List LogEntry) (point : ℕ) → IsSound log point (kept.Known self.old) → IsSound log (point + 1) (passed_as self.new result) }
-        ensures clean { (image : Image) (t : Thread) (slots : List NotedSlot) (log : List LogEntry) → IsCleanIn image t slots log (kept.Known self.old) → IsCleanIn image t slots log (passed_as self.new result) }
+        ensures clean { (image : Image) (t : Thread) (slots : List NotedSlot) (log : List LogEntry) → IsCleanIn image t slots log (kept.Known self.old)
+            → IsCleanIn image t slots log (passed_as self.new result) }
     {
         if !pass(pc, instr, &mut self.bounds) {
             return AtPoint::Missing;
@@ -91,10 +93,14 @@ impl ReadPoint<'_, '_, '_, '_> {
     /// Makes of what is kept of the point, which has no system call, what is kept of the one after it, where no record notes that.
     pub(crate) fn pass_plain(&self, kept: &mut AtPoint<Known>)
         requires plain { instruction_at self.now.read.program.now.given.space.thread.now self.now.point ≢ Some Ecall }
-        requires kept { IsKeptAt self.now.read.program.now.given.space.image.now (thread_of self.now.read.program.now) self.now.read.program.now.given.slots.now self.now.read.points.now.log self.now.point kept.old }
-        ensures same { noted_by self.now.read.program.now.given.slots.now self.now.read.points.now.log kept.new ≡ follows self.now.read.program.now.given.space.image.now (thread_of self.now.read.program.now) self.now.point (noted_by self.now.read.program.now.given.slots.now self.now.read.points.now.log kept.old) }
+        requires kept { IsKeptAt self.now.read.program.now.given.space.image.now
+            (thread_of self.now.read.program.now) self.now.read.program.now.given.slots.now self.now.read.points.now.log self.now.point kept.old }
+        ensures same { noted_by self.now.read.program.now.given.slots.now self.now.read.points.now.log kept.new
+            ≡ follows self.now.read.program.now.given.space.image.now (thread_of self.now.read.program.now) self.now.point
+            (noted_by self.now.read.program.now.given.slots.now self.now.read.points.now.log kept.old) }
         ensures sound { IsSound self.now.read.points.now.log (self.now.point + 1) kept.new }
-        ensures clean { IsCleanIn self.now.read.program.now.given.space.image.now self.now.read.program.now.given.space.thread.now self.now.read.program.now.given.slots.now self.now.read.points.now.log kept.new }
+        ensures clean { IsCleanIn self.now.read.program.now.given.space.image.now self.now.read.program.now.given.space.thread.now
+            self.now.read.program.now.given.slots.now self.now.read.points.now.log kept.new }
     {
         let AtPoint::Known(known) = kept else {
             *kept = AtPoint::Missing;
@@ -113,11 +119,13 @@ impl ReadPoint<'_, '_, '_, '_> {
 impl Visit<'_, '_, '_, '_> {
     /// Adds to what is kept of the point what a look at its slots shows, where nothing is known of them.
     pub(crate) fn look(&self, kept: &mut AtPoint<Known>, log: &SlotLog, shown: &ShownPart)
-        requires { IsLookedAt self.now.program.now.given.space.image.now self.now.program.now.given.space.thread.now self.now.program.now.given.slots.now log.now self.now.point shown.now kept.old }
+        requires { IsLookedAt self.now.program.now.given.space.image.now self.now.program.now.given.space.thread.now self.now.program.now.given.slots.now
+            log.now self.now.point shown.now kept.old }
         ensures same { noted_by self.now.program.now.given.slots.now log.now kept.new ≡ noted_by self.now.program.now.given.slots.now log.now kept.old }
         ensures sound { IsSound log.now self.now.point kept.new }
         ensures shown { ShowsKept log.now shown.now kept.new }
-        ensures clean { IsCleanIn self.now.program.now.given.space.image.now self.now.program.now.given.space.thread.now self.now.program.now.given.slots.now log.now kept.new }
+        ensures clean { IsCleanIn self.now.program.now.given.space.image.now self.now.program.now.given.space.thread.now self.now.program.now.given.slots.now
+            log.now kept.new }
     {
         points_without_stray_slots_have_none();
         if let AtPoint::Known(known) = kept {
@@ -142,11 +150,15 @@ impl Visit<'_, '_, '_, '_> {
         log: &mut SlotLog,
         shown: &ShownPart,
     ) -> Result<AtPoint<Known>, AllocError>
-        requires { IsLookedAt self.now.program.now.given.space.image.now self.now.program.now.given.space.thread.now self.now.program.now.given.slots.now log.old self.now.point shown.now (kept.Known known.now) }
+        requires { IsLookedAt self.now.program.now.given.space.image.now self.now.program.now.given.space.thread.now self.now.program.now.given.slots.now
+            log.old self.now.point shown.now (kept.Known known.now) }
         ensures same { IfOk result (λ k. noted_by self.now.program.now.given.slots.now log.new k
-            ≡ follows_call self.now.program.now.given.space.thread.now (measure_of known.now.measure) (call_at self.now.program.now.given.space.image.now (thread_of self.now.program.now) self.now.point (state_by self.now.program.now.given.slots.now log.old known.now))) }
+            ≡ follows_call self.now.program.now.given.space.thread.now (measure_of known.now.measure)
+            (call_at self.now.program.now.given.space.image.now (thread_of self.now.program.now) self.now.point
+            (state_by self.now.program.now.given.slots.now log.old known.now))) }
         ensures sound { IfOk result (IsSound log.new (self.now.point + 1)) }
-        ensures clean { IfOk result (IsCleanIn self.now.program.now.given.space.image.now self.now.program.now.given.space.thread.now self.now.program.now.given.slots.now log.new) }
+        ensures clean { IfOk result (IsCleanIn self.now.program.now.given.space.image.now self.now.program.now.given.space.thread.now
+            self.now.program.now.given.slots.now log.new) }
         ensures others { IfOk result (λ _. KeepsParts log.old log.new) }
     {
         let program = self.program;
@@ -176,10 +188,15 @@ impl Visit<'_, '_, '_, '_> {
         log: &mut SlotLog,
         shown: &ShownPart,
     ) -> Result<(), AllocError>
-        requires { IsLookedAt self.now.program.now.given.space.image.now self.now.program.now.given.space.thread.now self.now.program.now.given.slots.now log.old self.now.point shown.now kept.old }
-        ensures same { IfOk result (λ _. self.now.is_next_noted ≡ false → noted_by self.now.program.now.given.slots.now log.new kept.new ≡ follows self.now.program.now.given.space.image.now (thread_of self.now.program.now) self.now.point (noted_by self.now.program.now.given.slots.now log.old kept.old)) }
+        requires { IsLookedAt self.now.program.now.given.space.image.now self.now.program.now.given.space.thread.now self.now.program.now.given.slots.now
+            log.old self.now.point shown.now kept.old }
+        ensures same { IfOk result (λ _. self.now.is_next_noted ≡ false
+            → noted_by self.now.program.now.given.slots.now log.new kept.new
+            ≡ follows self.now.program.now.given.space.image.now (thread_of self.now.program.now) self.now.point
+            (noted_by self.now.program.now.given.slots.now log.old kept.old)) }
         ensures sound { IfOk result (λ _. IsSound log.new (self.now.point + 1) kept.new) }
-        ensures clean { IfOk result (λ _. IsCleanIn self.now.program.now.given.space.image.now self.now.program.now.given.space.thread.now self.now.program.now.given.slots.now log.new kept.new) }
+        ensures clean { IfOk result (λ _. IsCleanIn self.now.program.now.given.space.image.now self.now.program.now.given.space.thread.now
+            self.now.program.now.given.slots.now log.new kept.new) }
         ensures others { IfOk result (λ _. KeepsParts log.old log.new) }
     {
         if self.is_next_noted {

@@ -90,7 +90,8 @@ impl<'a> KeptPoints<'a> {
 
     /// Whether a point has a state.
     pub(crate) fn has_state(&self, point: u32) -> bool
-        ensures { result ≡ true → (image : Image) (t : Numbered) (slots : List NotedSlot) (log : List LogEntry) → AreKept image t slots log self.now → has_state (noted image t point) ≡ true }
+        ensures { result ≡ true → (image : Image) (t : Numbered) (slots : List NotedSlot) (log : List LogEntry) → AreKept image t slots log self.now
+            → has_state (noted image t point) ≡ true }
     {
         if self.places.len() <= point as usize {
             return false;
@@ -102,7 +103,8 @@ impl<'a> KeptPoints<'a> {
     fn keep_whole(&mut self, known: &Known) -> Result<Place, AllocError>
         ensures same { IfOk result (λ _. self.new.places ≡ self.old.places) }
         ensures others { IfOk result (λ _. KeepsAll self.old self.new) }
-        ensures at { IfOk result (λ place. (image : Image) (t : Numbered) (slots : List NotedSlot) (log : List LogEntry) (point : ℕ) → IsKeptAt image t slots log point (kept.Known known.now) → IsAt image t slots log self.new point place) }
+        ensures at { IfOk result (λ place. (image : Image) (t : Numbered) (slots : List NotedSlot) (log : List LogEntry) (point : ℕ)
+            → IsKeptAt image t slots log point (kept.Known known.now) → IsAt image t slots log self.new point place) }
     {
         let at = narrowed(self.whole.len())?;
         self.whole.push(*known)?;
@@ -113,7 +115,8 @@ impl<'a> KeptPoints<'a> {
     fn keep_record(&mut self, noted: &PlacedRecord<'a>, known: &Known) -> Result<Place, AllocError>
         ensures same { IfOk result (λ _. self.new.places ≡ self.old.places) }
         ensures others { IfOk result (λ _. KeepsAll self.old self.new) }
-        ensures at { IfOk result (λ place. (image : Image) (t : Numbered) (slots : List NotedSlot) (log : List LogEntry) (point : ℕ) → record_of t.thread point ≡ Some noted.now
+        ensures at { IfOk result (λ place. (image : Image) (t : Numbered) (slots : List NotedSlot) (log : List LogEntry) (point : ℕ)
+            → record_of t.thread point ≡ Some noted.now
             → IsKeptAt image t slots log point (kept.Known known.now) → IsAt image t slots log self.new point place) }
     {
         let Some(part) = part_of_record(noted, known) else {
@@ -138,7 +141,8 @@ impl<'a> KeptPoints<'a> {
     ) -> Result<Place, AllocError>
         ensures same { IfOk result (λ _. self.new.places ≡ self.old.places) }
         ensures others { IfOk result (λ _. KeepsAll self.old self.new) }
-        ensures at { IfOk result (λ place. (point : ℕ) → 1 ≤ point → IsNextAt program.now.given.space.thread.now self.new before.now point (kept.Known known.now) place) }
+        ensures at { IfOk result (λ place. (point : ℕ) → 1 ≤ point
+            → IsNextAt program.now.given.space.thread.now self.new before.now point (kept.Known known.now) place) }
     {
         let AtPoint::Known(before) = before else {
             return self.keep_whole(known);
@@ -160,7 +164,8 @@ impl<'a> KeptPoints<'a> {
     ) -> Result<Place, AllocError>
         ensures same { IfOk result (λ _. self.new.places ≡ self.old.places) }
         ensures others { IfOk result (λ _. KeepsAll self.old self.new) }
-        ensures at { IfOk result (λ place. record_of visit.now.program.now.given.space.thread.now visit.now.point ≡ None → IsNextAt visit.now.program.now.given.space.thread.now self.new before.now visit.now.point (kept.Known known.now) place) }
+        ensures at { IfOk result (λ place. record_of visit.now.program.now.given.space.thread.now visit.now.point ≡ None
+            → IsNextAt visit.now.program.now.given.space.thread.now self.new before.now visit.now.point (kept.Known known.now) place) }
     {
         let program = visit.program;
         let point = visit.point;
@@ -205,8 +210,10 @@ impl<'a> KeptPoints<'a> {
         kept: &AtPoint<Known>,
     ) -> Result<(), AllocError>
         ensures count { IfOk result (λ _. length self.new.places.items ≡ length self.old.places.items + 1) }
-        ensures kept { IfOk result (λ _. (image : Image) (t : Numbered) (slots : List NotedSlot) (log : List LogEntry) → t.thread ≡ visit.now.program.now.given.space.thread.now → length self.old.places.items ≡ visit.now.point
-            → ((last : ℕ) → last + 1 ≡ visit.now.point → IsKeptAt image t slots log last before.now) → IsKeptAt image t slots log visit.now.point kept.now → AreKept image t slots log self.old → AreKept image t slots log self.new) }
+        ensures kept { IfOk result (λ _. (image : Image) (t : Numbered) (slots : List NotedSlot) (log : List LogEntry)
+            → t.thread ≡ visit.now.program.now.given.space.thread.now → length self.old.places.items ≡ visit.now.point
+            → ((last : ℕ) → last + 1 ≡ visit.now.point → IsKeptAt image t slots log last before.now) → IsKeptAt image t slots log visit.now.point kept.now
+            → AreKept image t slots log self.old → AreKept image t slots log self.new) }
     {
         let place = self.keep(visit, before, kept)?;
         self.places.push(place)?;
@@ -220,7 +227,8 @@ impl<'a> KeptPoints<'a> {
 
     /// What is kept of the point of a record.
     fn record_at(&self, at: u32, is_clean: bool) -> AtPoint<Known>
-        ensures { (image : Image) (t : Numbered) (slots : List NotedSlot) (log : List LogEntry) (point : ℕ) → IsInRecord image t slots log self.now.recorded.items point at is_clean → IsKeptAt image t slots log point result }
+        ensures { (image : Image) (t : Numbered) (slots : List NotedSlot) (log : List LogEntry) (point : ℕ)
+            → IsInRecord image t slots log self.now.recorded.items point at is_clean → IsKeptAt image t slots log point result }
     {
         if self.recorded.len() <= at as usize {
             return AtPoint::Missing;
@@ -230,7 +238,8 @@ impl<'a> KeptPoints<'a> {
 
     /// What is kept of the point of a state that is kept whole.
     fn whole_at(&self, at: u32) -> AtPoint<Known>
-        ensures { (image : Image) (t : Numbered) (slots : List NotedSlot) (log : List LogEntry) (point : ℕ) → IsWhole image t slots log self.now.whole.items point at → IsKeptAt image t slots log point result }
+        ensures { (image : Image) (t : Numbered) (slots : List NotedSlot) (log : List LogEntry) (point : ℕ)
+            → IsWhole image t slots log self.now.whole.items point at → IsKeptAt image t slots log point result }
     {
         if self.whole.len() <= at as usize {
             return AtPoint::Missing;
@@ -240,8 +249,10 @@ impl<'a> KeptPoints<'a> {
 
     /// What is kept of a point that does not follow from the one before it.
     pub(crate) fn first(&self, point: u32) -> AtPoint<Known>
-        ensures { (image : Image) (t : Numbered) (slots : List NotedSlot) (log : List LogEntry) → AreKept image t slots log self.now → point < length self.now.places.items
-            → ((place : Place) → slice_get self.now.places.items point ≡ Some place → is_step place ≡ true → point ≡ 0) → IsKeptAt image t slots log point result }
+        ensures { (image : Image) (t : Numbered) (slots : List NotedSlot) (log : List LogEntry) → AreKept image t slots log self.now
+            → point < length self.now.places.items
+            → ((place : Place) → slice_get self.now.places.items point ≡ Some place → is_step place ≡ true → point ≡ 0)
+            → IsKeptAt image t slots log point result }
     {
         if self.places.len() <= point as usize {
             return AtPoint::Missing;
@@ -251,7 +262,8 @@ impl<'a> KeptPoints<'a> {
 
     /// What is kept at a place.
     pub(crate) fn at_place(&self, place: Place) -> AtPoint<Known>
-        ensures { (image : Image) (t : Numbered) (slots : List NotedSlot) (log : List LogEntry) (point : ℕ) → IsAt image t slots log self.now point place → (is_step place ≡ true → point ≡ 0)
+        ensures { (image : Image) (t : Numbered) (slots : List NotedSlot) (log : List LogEntry) (point : ℕ) → IsAt image t slots log self.now point place
+            → (is_step place ≡ true → point ≡ 0)
             → IsKeptAt image t slots log point result }
     {
         match place {
@@ -296,8 +308,10 @@ impl<'a> KeptPoints<'a> {
         at: u32,
         kept: &AtPoint<Known>,
     ) -> AtPoint<Known>
-        ensures { (image : Image) (t : Numbered) (slots : List NotedSlot) (log : List LogEntry) (point : ℕ) → t.thread ≡ program.now.given.space.thread.now → point ≤ 2 ^ 32
-            → IsKeptAt image t slots log point kept.now → IsAt image t slots log self.now (point + 1) (place.Called at) → IsKeptAt image t slots log (point + 1) result }
+        ensures { (image : Image) (t : Numbered) (slots : List NotedSlot) (log : List LogEntry) (point : ℕ) → t.thread ≡ program.now.given.space.thread.now
+            → point ≤ 2 ^ 32
+            → IsKeptAt image t slots log point kept.now → IsAt image t slots log self.now (point + 1) (place.Called at)
+            → IsKeptAt image t slots log (point + 1) result }
     {
         if self.called.len() <= at as usize {
             return AtPoint::Missing;

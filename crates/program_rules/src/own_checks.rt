@@ -83,9 +83,13 @@ impl VisitedSlots<'_, '_, '_, '_, '_> {
     /// are not asked again, and those that are found now are noted.
     #[tactic(auto, unfolding(model::specs::Acceptance::PointRules::is_unmapped))]
     fn is_unmapped(&self, bounds: &Bounds, found: &mut FoundPages) -> bool
-        requires { AreMapped self.now.visit.program.now.given.space.image.now self.now.visit.program.now.given.space.thread.now (slots_of self.now.slots) found.old }
-        ensures is { (measure : NotedMeasure) → result ≡ is_unmapped self.now.visit.program.now.given.space.image.now self.now.visit.program.now.given.space.thread.now (known_with bounds.now (slots_of self.now.slots) measure) self.now.visit.instr }
-        ensures found { AreMapped self.now.visit.program.now.given.space.image.now self.now.visit.program.now.given.space.thread.now (slots_of self.now.slots) found.new }
+        requires { AreMapped self.now.visit.program.now.given.space.image.now self.now.visit.program.now.given.space.thread.now
+            (slots_of self.now.slots) found.old }
+        ensures is { (measure : NotedMeasure) → result
+            ≡ is_unmapped self.now.visit.program.now.given.space.image.now self.now.visit.program.now.given.space.thread.now
+            (known_with bounds.now (slots_of self.now.slots) measure) self.now.visit.instr }
+        ensures found { AreMapped self.now.visit.program.now.given.space.image.now self.now.visit.program.now.given.space.thread.now
+            (slots_of self.now.slots) found.new }
         ensures part { found.new.part ≡ found.old.part }
     {
         let Some(instr) = self.visit.instr else {
@@ -140,10 +144,14 @@ impl VisitedSlots<'_, '_, '_, '_, '_> {
     /// thread may not have (`CapNotThere`); the measure is at least 1 (`MeasureNotFalling`); and it loads and stores only where it
     /// may (`NotMapped`). Pages that are found mapped are noted.
     pub(crate) fn own_rules(&self, known: &Known, found: &mut FoundPages) -> Result<(), Refusal>
-        requires { AreMapped self.now.visit.program.now.given.space.image.now self.now.visit.program.now.given.space.thread.now (slots_of self.now.slots) found.old }
-        ensures found { AreMapped self.now.visit.program.now.given.space.image.now self.now.visit.program.now.given.space.thread.now (slots_of self.now.slots) found.new }
+        requires { AreMapped self.now.visit.program.now.given.space.image.now self.now.visit.program.now.given.space.thread.now
+            (slots_of self.now.slots) found.old }
+        ensures found { AreMapped self.now.visit.program.now.given.space.image.now self.now.visit.program.now.given.space.thread.now
+            (slots_of self.now.slots) found.new }
         ensures part { found.new.part ≡ found.old.part }
-        ensures broken { result_err result ≡ first_broken (own_rules self.now.visit.program.now.given.space.image.now (thread_of self.now.visit.program.now) self.now.visit.point (known_with known.now.bounds (slots_of self.now.slots) (measure_of known.now.measure)) self.now.visit.instr) }
+        ensures broken { result_err result ≡ first_broken
+            (own_rules self.now.visit.program.now.given.space.image.now (thread_of self.now.visit.program.now) self.now.visit.point
+            (known_with known.now.bounds (slots_of self.now.slots) (measure_of known.now.measure)) self.now.visit.instr) }
     {
         let at = self.visit.program.at(self.visit.point);
         let instr = self.visit.instr;
@@ -170,8 +178,10 @@ impl Visit<'_, '_, '_, '_> {
     /// Whether the point keeps its own rules with this state whatever slots it has, and has no way on but to the next point: no record
     /// notes it, it is known that no slot is one that the thread may not have, and the instruction asks for none.
     pub(crate) fn keeps_own_unseen(&self, known: &Known) -> bool
-        ensures own { (slots : List NotedSlot) → result ≡ true → (known.now.is_clean ≡ true → NoneStray self.now.program.now.given.space.image.now self.now.program.now.given.space.thread.now slots)
-            → first_broken (own_rules self.now.program.now.given.space.image.now (thread_of self.now.program.now) self.now.point (known_with known.now.bounds slots (measure_of known.now.measure)) self.now.instr) ≡ None }
+        ensures own { (slots : List NotedSlot) → result ≡ true
+            → (known.now.is_clean ≡ true → NoneStray self.now.program.now.given.space.image.now self.now.program.now.given.space.thread.now slots)
+            → first_broken (own_rules self.now.program.now.given.space.image.now (thread_of self.now.program.now) self.now.point
+            (known_with known.now.bounds slots (measure_of known.now.measure)) self.now.instr) ≡ None }
         ensures ways { (pc : ℕ) (ranges : List Range) (i : RuleInstr) → result ≡ true → self.now.instr ≡ Some i → (after pc i ranges).taken ≡ None }
     {
         if self.noted.is_some() {

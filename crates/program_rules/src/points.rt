@@ -30,7 +30,8 @@ pub(crate) struct Points<'a> {
 /// What is kept of a point that has a record.
 #[tactic(auto, unfolding(model::specs::Acceptance::NotedStates::record_state))]
 fn recorded(log: &mut SlotLog, placed: &PlacedRecord<'_>) -> Result<AtPoint<Known>, AllocError>
-    ensures same { IfOk result (λ k. (image : Image) (t : Thread) → Rise (image_slots image t) → noted_by (image_slots image t) log.new k ≡ states.Known (record_state image t placed.now)) }
+    ensures same { IfOk result (λ k. (image : Image) (t : Thread) → Rise (image_slots image t)
+        → noted_by (image_slots image t) log.new k ≡ states.Known (record_state image t placed.now)) }
     ensures sound { IfOk result (λ k. (point : ℕ) → IsSound log.new point k) }
     ensures clean { IfOk result (λ k. (image : Image) (t : Thread) (slots : List NotedSlot) → IsCleanIn image t slots log.new k) }
     ensures others { IfOk result (λ _. KeepsParts log.old log.new) }
@@ -55,7 +56,8 @@ fn note_own(
     ensures same { IfOk result (λ _. (image : Image) (t : Thread) → Rise (image_slots image t) → noted_by (image_slots image t) log.new derived.new
         ≡ states.noted_or image t (option_map (λ r. r.now) noted.entry) (noted_by (image_slots image t) log.old derived.old)) }
     ensures sound { IfOk result (λ _. (point : ℕ) → IsSound log.old point derived.old → IsSound log.new point derived.new) }
-    ensures clean { IfOk result (λ _. (image : Image) (t : Thread) (slots : List NotedSlot) → IsCleanIn image t slots log.old derived.old → IsCleanIn image t slots log.new derived.new) }
+    ensures clean { IfOk result (λ _. (image : Image) (t : Thread) (slots : List NotedSlot) → IsCleanIn image t slots log.old derived.old
+        → IsCleanIn image t slots log.new derived.new) }
     ensures others { IfOk result (λ _. KeepsParts log.old log.new) }
 {
     match noted {
@@ -77,9 +79,11 @@ impl<'a> Points<'a> {
         derived: &mut AtPoint<Known>,
         shown: &mut ShownPart,
     ) -> Result<(), AllocError>
-        requires read { IsReadTo visit.now.program.now.given.space.image.now (thread_of visit.now.program.now) visit.now.program.now.given.slots.now visit.now.point self.old.log self.old.kept last.old derived.old }
+        requires read { IsReadTo visit.now.program.now.given.space.image.now
+            (thread_of visit.now.program.now) visit.now.program.now.given.slots.now visit.now.point self.old.log self.old.kept last.old derived.old }
         requires shown { ShowsSome self.old.log shown.old }
-        ensures read { IfOk result (λ _. IsReadTo visit.now.program.now.given.space.image.now (thread_of visit.now.program.now) visit.now.program.now.given.slots.now (visit.now.point + 1) self.new.log self.new.kept last.new derived.new) }
+        ensures read { IfOk result (λ _. IsReadTo visit.now.program.now.given.space.image.now
+            (thread_of visit.now.program.now) visit.now.program.now.given.slots.now (visit.now.point + 1) self.new.log self.new.kept last.new derived.new) }
         ensures shown { IfOk result (λ _. ShowsSome self.new.log shown.new) }
     {
         note_own(&mut self.log, visit.noted, derived)?;

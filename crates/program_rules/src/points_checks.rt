@@ -41,15 +41,21 @@ impl<'a> Visit<'_, '_, 'a, '_> {
         same: &mut SameParts,
         found: &mut FoundPages,
     ) -> Result<(), Refusal>
-        requires read { IsRead self.now.program.now.given.space.image.now (thread_of self.now.program.now) self.now.program.now.given.slots.now points.old.log points.old.kept }
-        requires kept { IsKeptAt self.now.program.now.given.space.image.now (thread_of self.now.program.now) self.now.program.now.given.slots.now points.old.log self.now.point (kept.Known known.now) }
+        requires read { IsRead self.now.program.now.given.space.image.now
+            (thread_of self.now.program.now) self.now.program.now.given.slots.now points.old.log points.old.kept }
+        requires kept { IsKeptAt self.now.program.now.given.space.image.now
+            (thread_of self.now.program.now) self.now.program.now.given.slots.now points.old.log self.now.point (kept.Known known.now) }
         requires part { Shows points.old.log known.now.part shown.old }
         requires same { AreSame self.now.program.now.given.slots.now points.old.log same.old }
-        requires found { AreFound self.now.program.now.given.space.image.now self.now.program.now.given.space.thread.now self.now.program.now.given.slots.now points.old.log found.old }
+        requires found { AreFound self.now.program.now.given.space.image.now self.now.program.now.given.space.thread.now self.now.program.now.given.slots.now
+            points.old.log found.old }
         ensures same { IfOk result (λ _. AreSame self.now.program.now.given.slots.now points.new.log same.new) }
-        ensures found { IfOk result (λ _. AreFound self.now.program.now.given.space.image.now self.now.program.now.given.space.thread.now self.now.program.now.given.slots.now points.new.log found.new) }
-        ensures broken { Answers (first_broken (state_rules self.now.program.now.given.space.image.now (thread_of self.now.program.now) self.now.point (state_by self.now.program.now.given.slots.now points.old.log known.now))) result }
-        ensures read { IfOk result (λ _. IsRead self.now.program.now.given.space.image.now (thread_of self.now.program.now) self.now.program.now.given.slots.now points.new.log points.new.kept) }
+        ensures found { IfOk result (λ _. AreFound self.now.program.now.given.space.image.now self.now.program.now.given.space.thread.now
+            self.now.program.now.given.slots.now points.new.log found.new) }
+        ensures broken { Answers (first_broken (state_rules self.now.program.now.given.space.image.now (thread_of self.now.program.now) self.now.point
+            (state_by self.now.program.now.given.slots.now points.old.log known.now))) result }
+        ensures read { IfOk result (λ _. IsRead self.now.program.now.given.space.image.now
+            (thread_of self.now.program.now) self.now.program.now.given.slots.now points.new.log points.new.kept) }
         ensures shown { IfOk result (λ _. ShowsSome points.new.log shown.new) }
         ensures others { IfOk result (λ _. KeepsParts points.old.log points.new.log) }
     {
@@ -89,15 +95,21 @@ impl<'a> Visit<'_, '_, 'a, '_> {
         same: &mut SameParts,
         found: &mut FoundPages,
     ) -> Result<(), Refusal>
-        requires read { IsRead self.now.program.now.given.space.image.now (thread_of self.now.program.now) self.now.program.now.given.slots.now points.old.log points.old.kept }
-        requires kept { IsKeptAt self.now.program.now.given.space.image.now (thread_of self.now.program.now) self.now.program.now.given.slots.now points.old.log self.now.point kept.now }
+        requires read { IsRead self.now.program.now.given.space.image.now
+            (thread_of self.now.program.now) self.now.program.now.given.slots.now points.old.log points.old.kept }
+        requires kept { IsKeptAt self.now.program.now.given.space.image.now
+            (thread_of self.now.program.now) self.now.program.now.given.slots.now points.old.log self.now.point kept.now }
         requires some { ShowsSome points.old.log shown.old }
         requires same { AreSame self.now.program.now.given.slots.now points.old.log same.old }
-        requires found { AreFound self.now.program.now.given.space.image.now self.now.program.now.given.space.thread.now self.now.program.now.given.slots.now points.old.log found.old }
+        requires found { AreFound self.now.program.now.given.space.image.now self.now.program.now.given.space.thread.now self.now.program.now.given.slots.now
+            points.old.log found.old }
         ensures same { IfOk result (λ _. AreSame self.now.program.now.given.slots.now points.new.log same.new) }
-        ensures found { IfOk result (λ _. AreFound self.now.program.now.given.space.image.now self.now.program.now.given.space.thread.now self.now.program.now.given.slots.now points.new.log found.new) }
-        ensures broken { Answers (first_broken (point_rules self.now.program.now.given.space.image.now (thread_of self.now.program.now) self.now.point)) result }
-        ensures read { IfOk result (λ _. IsRead self.now.program.now.given.space.image.now (thread_of self.now.program.now) self.now.program.now.given.slots.now points.new.log points.new.kept) }
+        ensures found { IfOk result (λ _. AreFound self.now.program.now.given.space.image.now self.now.program.now.given.space.thread.now
+            self.now.program.now.given.slots.now points.new.log found.new) }
+        ensures broken { Answers (first_broken (point_rules self.now.program.now.given.space.image.now (thread_of self.now.program.now) self.now.point))
+            result }
+        ensures read { IfOk result (λ _. IsRead self.now.program.now.given.space.image.now
+            (thread_of self.now.program.now) self.now.program.now.given.slots.now points.new.log points.new.kept) }
         ensures shown { IfOk result (λ _. ShowsSome points.new.log shown.new) }
         ensures others { IfOk result (λ _. KeepsParts points.old.log points.new.log) }
     {
@@ -120,7 +132,8 @@ impl ReadPoints<'_, '_, '_, '_> {
     /// The rules on the state of the thread's entry.
     fn entry_rules(&self) -> Result<(), Refusal>
         ensures { Answers (first_broken (entry_rules self.now.program.now.given.space.image.now (thread_of self.now.program.now)
-            (noted self.now.program.now.given.space.image.now (thread_of self.now.program.now) self.now.program.now.given.space.thread.now.header.entry))) result }
+            (noted self.now.program.now.given.space.image.now (thread_of self.now.program.now) self.now.program.now.given.space.thread.now.header.entry)))
+            result }
     {
         let program = self.program;
         let points = self.points;
@@ -186,7 +199,8 @@ impl<'a> Program<'a, '_> {
     /// Whether the slots of a part of the log are those that the image lists.
     fn has_listed_slots(&self, log: &SlotLog, part: Part) -> Result<bool, AllocError>
         requires { Holds log.now part }
-        ensures { IfOk result (λ is. is ≡ are_same_slots (replayed self.now.given.slots.now (part_of log.now part)) (image_slots self.now.given.space.image.now self.now.given.space.thread.now)) }
+        ensures { IfOk result (λ is. is ≡ are_same_slots (replayed self.now.given.slots.now (part_of log.now part))
+            (image_slots self.now.given.space.image.now self.now.given.space.thread.now)) }
     {
         let shown = log.shown(part)?;
         let nothing = ShownPart::new(self.alloc);

@@ -22,7 +22,8 @@ use rv32_isa::decode;
 pub(crate) struct ReadPoints<'p, 'k, 'a, 's> {
     pub(crate) program: &'p Program<'a, 's>,
     pub(crate) points: &'k Points<'a>,
-    ghost read: { IsRead program.now.given.space.image.now (thread_of program.now) program.now.given.slots.now points.now.log points.now.kept } by { Prim.hlevel (props, IsAt-prop) },
+    ghost read: { IsRead program.now.given.space.image.now (thread_of program.now)
+        program.now.given.slots.now points.now.log points.now.kept } by { Prim.hlevel (props, IsAt-prop) },
 }
 
 /// A point of such a program, with its instruction, if its word is one.
@@ -39,8 +40,11 @@ pub(crate) struct ReadPoint<'p, 'k, 'a, 's> {
 impl ReadPoint<'_, '_, '_, '_> {
     /// Makes of what is kept of the point what is kept of the one after it, if the program has one.
     pub(crate) fn pass(&self, kept: &mut AtPoint<Known>)
-        requires { IsKeptAt self.now.read.program.now.given.space.image.now (thread_of self.now.read.program.now) self.now.read.program.now.given.slots.now self.now.read.points.now.log self.now.point kept.old }
-        ensures { self.now.point + 1 < self.now.read.program.now.given.space.thread.now.header.words → IsKeptAt self.now.read.program.now.given.space.image.now (thread_of self.now.read.program.now) self.now.read.program.now.given.slots.now self.now.read.points.now.log (self.now.point + 1) kept.new }
+        requires { IsKeptAt self.now.read.program.now.given.space.image.now
+            (thread_of self.now.read.program.now) self.now.read.program.now.given.slots.now self.now.read.points.now.log self.now.point kept.old }
+        ensures { self.now.point + 1 < self.now.read.program.now.given.space.thread.now.header.words
+            → IsKeptAt self.now.read.program.now.given.space.image.now
+            (thread_of self.now.read.program.now) self.now.read.program.now.given.slots.now self.now.read.points.now.log (self.now.point + 1) kept.new }
     {
         let points = self.read.points;
         let program = self.read.program;
@@ -61,7 +65,8 @@ impl ReadPoints<'_, '_, '_, '_> {
     /// What is kept of a point.
     pub(crate) fn at(&self, point: u32) -> AtPoint<Known>
         requires { point < self.now.program.now.given.space.thread.now.header.words }
-        ensures { IsKeptAt self.now.program.now.given.space.image.now (thread_of self.now.program.now) self.now.program.now.given.slots.now self.now.points.now.log point result }
+        ensures { IsKeptAt self.now.program.now.given.space.image.now
+            (thread_of self.now.program.now) self.now.program.now.given.slots.now self.now.points.now.log point result }
     {
         let points = self.points;
         let program = self.program;

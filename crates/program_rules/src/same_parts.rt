@@ -20,7 +20,8 @@ pub(crate) struct SameParts {
 
 /// Whether a part is among others.
 fn are_among(others: &[Part], other: Part) -> bool
-    ensures { result ≡ true → (slots : List NotedSlot) (log : List LogEntry) (part : ListedPart) → All (IsSame slots log part) others.now → IsSame slots log part other }
+    ensures { result ≡ true → (slots : List NotedSlot) (log : List LogEntry) (part : ListedPart) → All (IsSame slots log part) others.now
+        → IsSame slots log part other }
 {
     for found in others {
         if found.is_same(other) {
@@ -50,7 +51,8 @@ impl SameParts {
 
     /// Notes that a part leaves the same slots as another one. What was found of a part before is forgotten. Memory may be refused.
     pub(crate) fn note(&mut self, part: Part, other: Part) -> Result<(), AllocError>
-        ensures { IfOk result (λ _. (slots : List NotedSlot) (log : List LogEntry) → AreSame slots log self.old → IsSame slots log part other → AreSame slots log self.new) }
+        ensures { IfOk result (λ _. (slots : List NotedSlot) (log : List LogEntry) → AreSame slots log self.old → IsSame slots log part other
+            → AreSame slots log self.new) }
     {
         if self.part.is_same(part) {
             self.others.push(other)?;

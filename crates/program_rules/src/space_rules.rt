@@ -34,7 +34,9 @@ impl VisitedSlots<'_, '_, '_, '_, '_> {
     /// Whether some slot is one that the thread may not have, or the point's record notes one outside of the thread's CNodes. Where
     /// it is known that no slot is, only the record is looked at.
     pub(crate) fn has_stray_slots(&self) -> bool
-        ensures { (ranges : List Range) (measure : Measure) → result ≡ has_stray_slots self.now.visit.program.now.given.space.image.now self.now.visit.program.now.given.space.thread.now self.now.visit.point (known_with ranges (slots_of self.now.slots) measure) }
+        ensures { (ranges : List Range) (measure : Measure)
+            → result ≡ has_stray_slots self.now.visit.program.now.given.space.image.now self.now.visit.program.now.given.space.thread.now self.now.visit.point
+            (known_with ranges (slots_of self.now.slots) measure) }
     {
         let program = self.visit.program;
         let told = ToldSlots {
@@ -48,8 +50,11 @@ impl VisitedSlots<'_, '_, '_, '_, '_> {
 
     /// What the system call at the point leaves. Memory may be refused.
     pub(crate) fn called(&self, bounds: &Bounds) -> Result<Called, AllocError>
-        ensures clean { IfOk result (IsCleanBehind self.now.visit.program.now.given.space.image.now self.now.visit.program.now.given.space.thread.now (slots_of self.now.slots)) }
-        ensures left { IfOk result (λ called. (measure : Measure) → call_at self.now.visit.program.now.given.space.image.now (thread_of self.now.visit.program.now) self.now.visit.point (known_with bounds.now (slots_of self.now.slots) measure)
+        ensures clean { IfOk result (IsCleanBehind self.now.visit.program.now.given.space.image.now self.now.visit.program.now.given.space.thread.now
+            (slots_of self.now.slots)) }
+        ensures left { IfOk result (λ called. (measure : Measure)
+            → call_at self.now.visit.program.now.given.space.image.now (thread_of self.now.visit.program.now) self.now.visit.point
+            (known_with bounds.now (slots_of self.now.slots) measure)
             ≡ call_of (slots_of self.now.slots) called) }
     {
         points_without_stray_slots_have_none();

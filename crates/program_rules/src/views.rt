@@ -103,7 +103,8 @@ impl ReadPoint<'_, '_, '_, '_> {
     fn plain_view(&self, known: &Known, instr: Instr) -> SeenPoint
         requires is { self.now.instr ≡ Some instr }
         requires plain { instr ≢ Ecall }
-        ensures { IsSeen self.now.read.program.now.given.space.image.now (thread_of self.now.read.program.now) self.now.point (state_by self.now.read.program.now.given.slots.now self.now.read.points.now.log known.now) result }
+        ensures { IsSeen self.now.read.program.now.given.space.image.now (thread_of self.now.read.program.now) self.now.point
+            (state_by self.now.read.program.now.given.slots.now self.now.read.points.now.log known.now) result }
     {
         let ways = after(self.read.program.address(self.point), instr, &known.bounds);
         SeenPoint {
@@ -117,9 +118,11 @@ impl ReadPoint<'_, '_, '_, '_> {
     /// What is seen of the point at a system call. The part of the log that its slots have is shown for that, in place of another one.
     fn call_view(&self, known: &Known, shown: &mut ShownPart) -> Result<PointView, AllocError>
         requires is { self.now.instr ≡ Some Ecall }
-        requires kept { IsKeptAt self.now.read.program.now.given.space.image.now (thread_of self.now.read.program.now) self.now.read.program.now.given.slots.now self.now.read.points.now.log self.now.point (kept.Known known.now) }
+        requires kept { IsKeptAt self.now.read.program.now.given.space.image.now
+            (thread_of self.now.read.program.now) self.now.read.program.now.given.slots.now self.now.read.points.now.log self.now.point (kept.Known known.now) }
         requires shown { ShowsSome self.now.read.points.now.log shown.old }
-        ensures view { IfOk result (IsView self.now.read.program.now.given.space.image.now (thread_of self.now.read.program.now) self.now.point (noted self.now.read.program.now.given.space.image.now (thread_of self.now.read.program.now) self.now.point)) }
+        ensures view { IfOk result (IsView self.now.read.program.now.given.space.image.now (thread_of self.now.read.program.now) self.now.point
+            (noted self.now.read.program.now.given.space.image.now (thread_of self.now.read.program.now) self.now.point)) }
         ensures shown { IfOk result (λ _. ShowsSome self.now.read.points.now.log shown.new) }
     {
         if !known.is_clean {
@@ -139,7 +142,8 @@ impl ReadPoint<'_, '_, '_, '_> {
     /// What is seen of the point.
     fn view(&self, shown: &mut ShownPart) -> Result<PointView, AllocError>
         requires { ShowsSome self.now.read.points.now.log shown.old }
-        ensures view { IfOk result (IsView self.now.read.program.now.given.space.image.now (thread_of self.now.read.program.now) self.now.point (noted self.now.read.program.now.given.space.image.now (thread_of self.now.read.program.now) self.now.point)) }
+        ensures view { IfOk result (IsView self.now.read.program.now.given.space.image.now (thread_of self.now.read.program.now) self.now.point
+            (noted self.now.read.program.now.given.space.image.now (thread_of self.now.read.program.now) self.now.point)) }
         ensures shown { IfOk result (λ _. ShowsSome self.now.read.points.now.log shown.new) }
     {
         let AtPoint::Known(known) = self.read.at(self.point) else {
@@ -162,7 +166,8 @@ impl ReadPoints<'_, '_, '_, '_> {
     /// What is seen of each point. Memory may be refused.
     fn views(&self, shown: &mut ShownPart) -> Result<Vec<PointView>, AllocError>
         requires { ShowsSome self.now.points.now.log shown.old }
-        ensures { IfOk result (λ views. AreViews self.now.program.now.given.space.image.now (thread_of self.now.program.now) self.now.program.now.given.space.thread.now.header.words views.items) }
+        ensures { IfOk result (λ views. AreViews self.now.program.now.given.space.image.now
+            (thread_of self.now.program.now) self.now.program.now.given.space.thread.now.header.words views.items) }
     {
         let program = self.program;
         let mut views = Vec::new(program.alloc);
@@ -194,7 +199,8 @@ impl Program<'_, '_> {
 
 /// What is seen of the points of a program, by what the image gives the thread.
 fn views_given(alloc: Global, given: GivenThread<'_, '_>) -> Result<Vec<PointView>, Refusal>
-    ensures views { IfOk result (λ views. AreViews given.entry.space.image.now (record { number = given.entry.number; thread = given.entry.space.thread.now }) given.entry.space.thread.now.header.words views.items) }
+    ensures views { IfOk result (λ views. AreViews given.entry.space.image.now
+        (record { number = given.entry.number; thread = given.entry.space.thread.now }) given.entry.space.thread.now.header.words views.items) }
     ensures memory { IfErr result (λ refusal. refusal ≡ OutOfMemory) }
 {
     let image = given.space.image;

@@ -58,7 +58,8 @@ pub(crate) struct Seen<'p, 'k, 'h, 'a, 's> {
     pub(crate) points: &'k Points<'a>,
     pub(crate) part: Part,
     pub(crate) shown: &'h ShownPart,
-    ghost read: { IsRead program.now.given.space.image.now (thread_of program.now) program.now.given.slots.now points.now.log points.now.kept } by { Prim.hlevel (props, IsAt-prop) },
+    ghost read: { IsRead program.now.given.space.image.now (thread_of program.now)
+        program.now.given.slots.now points.now.log points.now.kept } by { Prim.hlevel (props, IsAt-prop) },
     ghost shows: { Shows points.now.log part shown.now },
 }
 
@@ -70,9 +71,11 @@ pub(crate) struct PlainPoint<'p, 'n, 'k, 'h, 'c, 'a, 's> {
     pub(crate) shown: &'h ShownPart,
     pub(crate) known: &'c Known,
     pub(crate) instr: Instr,
-    ghost read: { IsRead visit.program.now.given.space.image.now (thread_of visit.program.now) visit.program.now.given.slots.now points.now.log points.now.kept } by { Prim.hlevel (props, IsAt-prop) },
+    ghost read: { IsRead visit.program.now.given.space.image.now
+        (thread_of visit.program.now) visit.program.now.given.slots.now points.now.log points.now.kept } by { Prim.hlevel (props, IsAt-prop) },
     ghost shows: { Shows points.now.log known.now.part shown.now },
-    ghost kept: { states.Known (state_by visit.program.now.given.slots.now points.now.log known.now) ≡ noted visit.program.now.given.space.image.now (thread_of visit.program.now) visit.point },
+    ghost kept: { states.Known (state_by visit.program.now.given.slots.now points.now.log known.now)
+        ≡ noted visit.program.now.given.space.image.now (thread_of visit.program.now) visit.point },
     ghost valid: { IsInstr instr } by { Prim.hlevel (props, IsInstr-prop) },
     ghost is: { instruction_at visit.program.now.given.space.thread.now visit.point ≡ Some instr },
     ghost plain: { instr ≢ Ecall },

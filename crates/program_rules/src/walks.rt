@@ -57,7 +57,8 @@ impl Walk {
     /// Goes on to a point of which this is kept. What is shown of the slots is set aside where its part is empty, and is gone on from
     /// after it; and what was left of showing the points before is taken where its part begins with it, so that it is not shown again.
     pub(crate) fn turn_to(&mut self, kept: &AtPoint<Known>)
-        ensures { (image : Image) (t : Thread) (slots : List NotedSlot) (log : List LogEntry) → GoesAlong image t slots log self.old → GoesAlong image t slots log self.new }
+        ensures { (image : Image) (t : Thread) (slots : List NotedSlot) (log : List LogEntry) → GoesAlong image t slots log self.old
+            → GoesAlong image t slots log self.new }
     {
         let is_empty = kept.has_empty_part();
         turn(is_empty != self.was_empty, &mut self.shown, &mut self.aside);

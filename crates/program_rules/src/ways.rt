@@ -75,7 +75,8 @@ impl Program<'_, '_> {
 impl Seen<'_, '_, '_, '_, '_> {
     /// What is kept of the point at an address: nothing, where the program has none there.
     fn kept_at(&self, address: u32) -> AtPoint<Known>
-        ensures noted { noted_by self.now.program.now.given.slots.now self.now.points.now.log result ≡ noted_at self.now.program.now.given.space.image.now (thread_of self.now.program.now) address }
+        ensures noted { noted_by self.now.program.now.given.slots.now self.now.points.now.log result
+            ≡ noted_at self.now.program.now.given.space.image.now (thread_of self.now.program.now) address }
         ensures held { HasPart self.now.points.now.log result }
     {
         let read = ReadPoints {
@@ -92,7 +93,8 @@ impl Seen<'_, '_, '_, '_, '_> {
     fn has_same_slots(&self, other: Part, same: &mut SameParts) -> Result<bool, AllocError>
         requires held { Holds self.now.points.now.log other }
         requires same { AreSame self.now.program.now.given.slots.now self.now.points.now.log same.old }
-        ensures is { IfOk result (λ is. is ≡ are_same_slots (replayed self.now.program.now.given.slots.now (part_of self.now.points.now.log self.now.part)) (replayed self.now.program.now.given.slots.now (part_of self.now.points.now.log other))) }
+        ensures is { IfOk result (λ is. is ≡ are_same_slots (replayed self.now.program.now.given.slots.now (part_of self.now.points.now.log self.now.part))
+            (replayed self.now.program.now.given.slots.now (part_of self.now.points.now.log other))) }
         ensures same { IfOk result (λ _. AreSame self.now.program.now.given.slots.now self.now.points.now.log same.new) }
     {
         if self.part.is_same(other) {
@@ -148,11 +150,15 @@ impl Visit<'_, '_, '_, '_> {
     /// Whether the next point has the very state that this one leaves: no record notes it, and it has a state. The way to it keeps its
     /// rules then, and a system call before it is not refused.
     pub(crate) fn leaves_next(&self, points: &Points<'_>) -> bool
-        requires { IsRead self.now.program.now.given.space.image.now (thread_of self.now.program.now) self.now.program.now.given.slots.now points.now.log points.now.kept }
-        ensures plain { (s : State) (instr : Instr) → result ≡ true → states.Known s ≡ noted self.now.program.now.given.space.image.now (thread_of self.now.program.now) self.now.point
+        requires { IsRead self.now.program.now.given.space.image.now
+            (thread_of self.now.program.now) self.now.program.now.given.slots.now points.now.log points.now.kept }
+        ensures plain { (s : State) (instr : Instr) → result ≡ true
+            → states.Known s ≡ noted self.now.program.now.given.space.image.now (thread_of self.now.program.now) self.now.point
             → instruction_at self.now.program.now.given.space.thread.now self.now.point ≡ Some instr → instr ≢ Ecall
-            → first_broken (way_rules self.now.program.now.given.space.image.now (thread_of self.now.program.now) self.now.point s instr (after (address_of self.now.program.now.given.space.thread.now self.now.point) instr s.ranges).fall_through) ≡ None }
-        ensures call { (s : State) → result ≡ true → states.Known s ≡ noted self.now.program.now.given.space.image.now (thread_of self.now.program.now) self.now.point
+            → first_broken (way_rules self.now.program.now.given.space.image.now (thread_of self.now.program.now) self.now.point s instr
+            (after (address_of self.now.program.now.given.space.thread.now self.now.point) instr s.ranges).fall_through) ≡ None }
+        ensures call { (s : State) → result ≡ true
+            → states.Known s ≡ noted self.now.program.now.given.space.image.now (thread_of self.now.program.now) self.now.point
             → instruction_at self.now.program.now.given.space.thread.now self.now.point ≡ Some Ecall
             → first_broken (later_rules self.now.program.now.given.space.image.now (thread_of self.now.program.now) self.now.point s (Some Ecall)) ≡ None }
     {
@@ -173,7 +179,8 @@ impl PlainPoint<'_, '_, '_, '_, '_, '_, '_> {
     fn way_rules(&self, way: &Edge, same: &mut SameParts) -> Result<(), Refusal>
         requires { AreSame self.now.visit.program.now.given.slots.now self.now.points.now.log same.old }
         ensures same { IfOk result (λ _. AreSame self.now.visit.program.now.given.slots.now self.now.points.now.log same.new) }
-        ensures answers { (edge : RuleEdge) → way_of edge ≡ way.now → edge.before ≡ (if is_branch self.now.instr then edge.ranges else self.now.known.now.bounds)
+        ensures answers { (edge : RuleEdge) → way_of edge ≡ way.now
+            → edge.before ≡ (if is_branch self.now.instr then edge.ranges else self.now.known.now.bounds)
             → Answers (broken_by self.now (Some edge)) result }
     {
         let before = before(self.instr, &self.known.bounds, way);
@@ -211,7 +218,8 @@ impl PlainPoint<'_, '_, '_, '_, '_, '_, '_> {
     fn taken_rules(&self, same: &mut SameParts) -> Result<(), Refusal>
         requires { AreSame self.now.visit.program.now.given.slots.now self.now.points.now.log same.old }
         ensures same { IfOk result (λ _. AreSame self.now.visit.program.now.given.slots.now self.now.points.now.log same.new) }
-        ensures answers { Answers (broken_by self.now (after (address_of self.now.visit.program.now.given.space.thread.now self.now.visit.point) self.now.instr self.now.known.now.bounds).taken) result }
+        ensures answers { Answers (broken_by self.now
+            (after (address_of self.now.visit.program.now.given.space.thread.now self.now.visit.point) self.now.instr self.now.known.now.bounds).taken) result }
     {
         if takes_no_way(self.instr) {
             return Ok(());
@@ -225,7 +233,8 @@ impl PlainPoint<'_, '_, '_, '_, '_, '_, '_> {
     pub(crate) fn ways_rules(&self, same: &mut SameParts) -> Result<(), Refusal>
         requires { AreSame self.now.visit.program.now.given.slots.now self.now.points.now.log same.old }
         ensures same { IfOk result (λ _. AreSame self.now.visit.program.now.given.slots.now self.now.points.now.log same.new) }
-        ensures answers { Answers (first_broken (rules_on_edges self.now.visit.program.now.given.space.image.now (thread_of self.now.visit.program.now) self.now.visit.point (state_at self.now))) result }
+        ensures answers { Answers (first_broken (rules_on_edges self.now.visit.program.now.given.space.image.now
+            (thread_of self.now.visit.program.now) self.now.visit.point (state_at self.now))) result }
     {
         if self.visit.leaves_next(self.points) {
             return self.taken_rules(same);

@@ -1,7 +1,8 @@
 //! Those that are ready to run. Each thread keeps the priority at which it is ready, the next and the previous thread
 //! at 256, 260 and 264 of its own bytes.
 
-ghost use Rattle.std.specs.Prelude.{ℕ, ◌≡◌, ◌≢◌, ◌==◌, ◌<◌, ◌*◌, ◌+◌, [], ◌∷◌, ◌++◌, IfSome, List, None, Option, Some, true, false, is_some, length, replicate, slice_set};
+ghost use Rattle.std.specs.Prelude.{ℕ, ◌≡◌, ◌≢◌, ◌==◌, ◌<◌, ◌*◌, ◌+◌, [], ◌∷◌, ◌++◌, IfSome, List, None, Option};
+ghost use Rattle.std.specs.Prelude.{Some, true, false, is_some, length, replicate, slice_set};
 ghost use Rattle.std.specs.Int.{bit_at};
 ghost use Rattle.std.specs.Option.{ForSome};
 ghost use Rattle.model.specs.Kernel.Scheduling.{first_below};
@@ -75,7 +76,8 @@ impl ReadyList {
         requires apart { (other : ℕ) → times_in (ready_of (L.places layout.now) self.old (S.memory store.old) other) thread ≡ 0 }
         requires there { (L.places layout.now).threads thread ≡ true }
         ensures queues { (other : ℕ) → ready_of (L.places layout.now) self.new (S.memory store.new) other
-            ≡ put (ready_of (L.places layout.now) self.old (S.memory store.old)) priority (ready_of (L.places layout.now) self.old (S.memory store.old) priority ++ thread ∷ []) other }
+            ≡ put (ready_of (L.places layout.now) self.old (S.memory store.old)) priority
+            (ready_of (L.places layout.now) self.old (S.memory store.old) priority ++ thread ∷ []) other }
         ensures stands { ReadyStands (L.places layout.now) self.new (S.memory store.new) }
         ensures slots { S.slots store.new ≡ S.slots store.old }
         ensures bytes { SameBesideReady (ready_of (L.places layout.now) self.new (S.memory store.new)) (S.memory store.old) (S.memory store.new) }

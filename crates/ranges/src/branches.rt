@@ -2,7 +2,8 @@
 
 ghost use Rattle.std.specs.Prelude.{◌≡◌, ◌==◌, if◌then◌else◌, IfSome, Some, None};
 ghost use Rattle.model.specs.Machine.Instructions.{IsRegister};
-ghost use Rattle.model.specs.Acceptance.Edges.{branch_ranges, equal_sides, have_one_sign, if_one_sign, intersection, is_empty_range, joined, lesser_sides, narrowed, not_lesser_sides, unequal_side, unequal_sides, with_sides, without_value};
+ghost use Rattle.model.specs.Acceptance.Edges.{branch_ranges, equal_sides, have_one_sign, if_one_sign, intersection, is_empty_range, joined, lesser_sides};
+ghost use Rattle.model.specs.Acceptance.Edges.{narrowed, not_lesser_sides, unequal_side, unequal_sides, with_sides, without_value};
 ghost use Rattle.ranges.specs.Edges.{only_if};
 ghost use Rattle.ranges.specs.Orders.{IsOrdered};
 

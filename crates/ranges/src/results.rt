@@ -2,7 +2,8 @@
 
 ghost use Rattle.std.specs.Prelude.{◌≡◌, ◌<◌, ◌≤◌, ◌^◌, ◌&&◌};
 ghost use Rattle.model.specs.Machine.Effects.{immediate_result, register_result, shift_result};
-ghost use Rattle.model.specs.Acceptance.RangeRules.{and_range, difference_range, if_positive, immediate_range, is_single, left_by, left_range, load_range, ones_above, or_range, register_range, right_by, right_range, shift_range, sum_range, value_or, xor_range};
+ghost use Rattle.model.specs.Acceptance.RangeRules.{and_range, difference_range, if_positive, immediate_range, is_single, left_by, left_range, load_range};
+ghost use Rattle.model.specs.Acceptance.RangeRules.{ones_above, or_range, register_range, right_by, right_range, shift_range, sum_range, value_or, xor_range};
 ghost use Rattle.model.specs.Acceptance.Ranges.{moved};
 ghost use Rattle.ranges.specs.Orders.{IsOrdered};
 

@@ -15,7 +15,8 @@ const NAMES: [&str; 32] = [
 pub(crate) fn target_description(alloc: Global) -> Result<String, AllocError> {
     let mut text = String::from_str(
         alloc,
-        "<?xml version=\"1.0\"?><!DOCTYPE target SYSTEM \"gdb-target.dtd\"><target version=\"1.0\"><architecture>riscv:rv32</architecture><feature name=\"org.gnu.gdb.riscv.cpu\">",
+        "<?xml version=\"1.0\"?><!DOCTYPE target SYSTEM \"gdb-target.dtd\"><target version=\"1.0\"><architecture>riscv:rv32</architecture>\
+         <feature name=\"org.gnu.gdb.riscv.cpu\">",
     )?;
     for name in NAMES.iter() {
         let kind = match *name {

@@ -10,7 +10,10 @@ use std::rt::Files;
 
 /// What `monitor` takes.
 const HELP: &str =
-    "irq NAME, tick, write PAGE INDEX WORD, read PAGE INDEX: the event comes next, and is done\nstep N: goes on by N events\nevents FILE: does the events of a file\nwhere: how many events are done\nto N: comes to the moment after N events, forwards or back\npart NAME, part all: for which part breakpoints and watches are set\nwaits: what each part waits for\nslots: what the slots of the part hold\nknown: what the certificate knows here, beside the values of registers\n";
+    "irq NAME, tick, write PAGE INDEX WORD, read PAGE INDEX: the event comes next, and is done\nstep N: goes on by N events\n\
+     events FILE: does the events of a file\nwhere: how many events are done\nto N: comes to the moment after N events, forwards or back\n\
+     part NAME, part all: for which part breakpoints and watches are set\nwaits: what each part waits for\nslots: what the slots of the part hold\n\
+     known: what the certificate knows here, beside the values of registers\n";
 
 /// Why nothing was done.
 fn not_put(fault: NotPut) -> Result<&'static str, AllocError> {

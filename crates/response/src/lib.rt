@@ -3,8 +3,15 @@
 #![tactic(auto)]
 
 ghost use Rattle.headline.specs.invocations.Laws.{Laws};
-ghost use Rattle.response.specs.Laws.{AllCallsAreWork, AllLevelsRestLater, AllLevelsRestWithin, AllStepsBelowRest, LeftAtRest, LevelsRestOwing, LevelsRestOwingLater, MessageResponsesDeal, MessageResponsesHold, RestedMessageResponsesDeal, RestedMessageResponsesHold, ServersRest, StepsBelowRestOwing, ThreadsWaitWhereAsked};
-ghost use Rattle.response.specs.Laws.{AcknowledgedLinesRest, LevelsComeToRest, LinesAreDealtWith, LinesAreDealtWithLater, InterruptsMask, NoWaySkips, ResponsesDeal, ResponsesHold, RestedResponsesDeal, RestedResponsesHold, NotificationCallsAreWork, NotificationLevelsRestLater, NotificationLevelsRestWithin, NotificationStepsBelowRest, BindingsStay, NoWordAtRest, InterruptsBeyond, InvocationsRingNothing, LevelsRestWithin, EconomiesBound, EconomiesBoundLater, LevelsRestLater, InterruptsCost, LevelsAreSeen, LevelsRun, PlainStepsAreWork, PrioritiesStay, TicksLeaveTheWork, WaitersTake, WhoRunsHasLeft, WritesLeaveTheWork, LooksLeaveTheWork};
+ghost use Rattle.response.specs.Laws.{AllCallsAreWork, AllLevelsRestLater, AllLevelsRestWithin, AllStepsBelowRest, LeftAtRest, LevelsRestOwing};
+ghost use Rattle.response.specs.Laws.{LevelsRestOwingLater, MessageResponsesDeal, MessageResponsesHold, RestedMessageResponsesDeal};
+ghost use Rattle.response.specs.Laws.{RestedMessageResponsesHold, ServersRest, StepsBelowRestOwing, ThreadsWaitWhereAsked};
+ghost use Rattle.response.specs.Laws.{AcknowledgedLinesRest, LevelsComeToRest, LinesAreDealtWith, LinesAreDealtWithLater, InterruptsMask, NoWaySkips};
+ghost use Rattle.response.specs.Laws.{ResponsesDeal, ResponsesHold, RestedResponsesDeal, RestedResponsesHold, NotificationCallsAreWork};
+ghost use Rattle.response.specs.Laws.{NotificationLevelsRestLater, NotificationLevelsRestWithin, NotificationStepsBelowRest, BindingsStay};
+ghost use Rattle.response.specs.Laws.{NoWordAtRest, InterruptsBeyond, InvocationsRingNothing, LevelsRestWithin, EconomiesBound, EconomiesBoundLater};
+ghost use Rattle.response.specs.Laws.{LevelsRestLater, InterruptsCost, LevelsAreSeen, LevelsRun, PlainStepsAreWork, PrioritiesStay, TicksLeaveTheWork};
+ghost use Rattle.response.specs.Laws.{WaitersTake, WhoRunsHasLeft, WritesLeaveTheWork, LooksLeaveTheWork};
 
 use headline::authority::{
     a_tick_stays_within_authority, an_interrupt_stays_within_authority,

@@ -62,7 +62,8 @@ fn wrong(alloc: Global, words: &[&str]) -> Result<NotTold, AllocError> {
         before = " ";
     }
     said.push_str(
-        "` is no rate: `LINE BURST PERIOD` are a line by its name or its number from 0 to 63, how many of its interrupts may come at once, and after how many instructions there may be one more\n",
+        "` is no rate: `LINE BURST PERIOD` are a line by its name or its number from 0 to 63, how many of its interrupts may come at once, and after how many \
+         instructions there may be one more\n",
     )?;
     Ok(NotTold::Wrong(said))
 }

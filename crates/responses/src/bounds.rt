@@ -159,7 +159,9 @@ impl Levels<'_, '_> {
 
     /// Whether numbers pass the test, from the start and later.
     fn pass(&self, claim: &Claim<'_>, numbers: &Numbers) -> bool
-        ensures { result ≡ true → IsTested self.now claim.now.priority (map rate_of claim.now.rates.now) claim.now.weights.now claim.now.settled.now claim.now.taken.now claim.now.lines.now claim.now.tended.now claim.now.owed.now numbers.now.most_at_first numbers.now.steps numbers.now.most_at_rest numbers.now.later }
+        ensures { result ≡ true → IsTested self.now claim.now.priority
+            (map rate_of claim.now.rates.now) claim.now.weights.now claim.now.settled.now claim.now.taken.now claim.now.lines.now claim.now.tended.now
+            claim.now.owed.now numbers.now.most_at_first numbers.now.steps numbers.now.most_at_rest numbers.now.later }
     {
         if !self.acknowledges(claim) {
             return false;
@@ -172,7 +174,9 @@ impl Levels<'_, '_> {
 
     /// The numbers of a level that was found, which pass the test; or why there are none.
     fn tested(&self, level: &Level, priority: u32, rates: &[Rate]) -> Result<Numbers, Option<Why>>
-        ensures { IfOk result (λ n. IsTested self.now priority (map rate_of rates.now) level.now.weights level.now.settled level.now.taken.items level.now.lines.items level.now.tended.items level.now.owed.items n.most_at_first n.steps n.most_at_rest n.later) }
+        ensures { IfOk result (λ n. IsTested self.now priority
+            (map rate_of rates.now) level.now.weights level.now.settled level.now.taken.items level.now.lines.items level.now.tended.items level.now.owed.items
+            n.most_at_first n.steps n.most_at_rest n.later) }
     {
         if rates
             .iter()

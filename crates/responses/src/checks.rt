@@ -4,7 +4,8 @@ ghost use Rattle.std.specs.Prelude.{◌≡◌, ◌+◌, ◌==◌, ◌||◌, IfSo
 ghost use Rattle.std.specs.List.{list_all, list_any, range_with_len};
 ghost use Rattle.model.specs.Shared.Lists.{times_in};
 ghost use Rattle.response.specs.Responding.{ring_fits};
-ghost use Rattle.responses.specs.Checks.{acknowledged_by, fit_rings, going_to, is_acknowledged, is_high, is_priced, is_rated, is_taken_among, left_to, owe_all, owes_so, pay_all, rest_seen, sums_fit};
+ghost use Rattle.responses.specs.Checks.{acknowledged_by, fit_rings, going_to, is_acknowledged, is_high, is_priced, is_rated};
+ghost use Rattle.responses.specs.Checks.{is_taken_among, left_to, owe_all, owes_so, pay_all, rest_seen, sums_fit};
 ghost use Rattle.responses.specs.Found.{number_at, price_in};
 ghost use Rattle.responses.specs.Seen.{asked, points_pass, view_passes};
 ghost use Rattle.responses.specs.Settling.{are_paid, is_tended, tended_by};
@@ -244,7 +245,8 @@ impl Rings<'_> {
 
     /// Whether what is seen of a point does.
     fn holds_at(&self, view: &PointView) -> bool
-        ensures { result ≡ view_passes (ring_fits (is_taken_among self.now.taken.now) (price_in self.now.weights.now.prices.items) self.now.rest self.now.most) view.now }
+        ensures { result ≡ view_passes (ring_fits (is_taken_among self.now.taken.now) (price_in self.now.weights.now.prices.items) self.now.rest self.now.most)
+            view.now }
     {
         match view {
             PointView::Unknown => true,
@@ -255,14 +257,16 @@ impl Rings<'_> {
 
     /// Whether all points do.
     fn holds_for(&self, points: &[PointView]) -> bool
-        ensures { result ≡ list_all (view_passes (ring_fits (is_taken_among self.now.taken.now) (price_in self.now.weights.now.prices.items) self.now.rest self.now.most)) points.now }
+        ensures { result ≡ list_all (view_passes
+            (ring_fits (is_taken_among self.now.taken.now) (price_in self.now.weights.now.prices.items) self.now.rest self.now.most)) points.now }
     {
         points.iter().all(|view| self.holds_at(view))
     }
 
     /// Whether all points of threads below do.
     pub(crate) fn hold_below(&self, priority: u32, programs: &[ProgramView]) -> bool
-        ensures { result ≡ fit_rings priority (is_taken_among self.now.taken.now) (price_in self.now.weights.now.prices.items) self.now.rest self.now.most programs.now }
+        ensures { result ≡ fit_rings priority (is_taken_among self.now.taken.now)
+            (price_in self.now.weights.now.prices.items) self.now.rest self.now.most programs.now }
     {
         programs.iter().all(|program| is_high(priority, program)
             || self.holds_for(program.points.as_slice()))
@@ -331,7 +335,8 @@ impl Waits<'_> {
 
     /// Whether all points of a program are.
     fn holds_for(&self, program: &ProgramView) -> bool
-        ensures { result ≡ points_pass (λ point. owes_so self.now.priority self.now.weights.now self.now.owed.now program.now (point + 1)) 0 program.now.points.items }
+        ensures { result ≡ points_pass (λ point. owes_so self.now.priority self.now.weights.now self.now.owed.now program.now (point + 1)) 0
+            program.now.points.items }
     {
         let points = program.points.as_slice();
         for point in 0..points.len() {
@@ -401,7 +406,8 @@ pub(crate) fn are_of_lines(rates: &[Rate]) -> bool
 impl Claim<'_> {
     /// What may be left where no thread of the level is ready.
     pub(crate) fn rest(&self, programs: &[ProgramView], bells: &[Option<Bell>]) -> Option<u64>
-        ensures { IfSome result (λ rest. rest ≡ rest_seen self.now.weights.now self.now.taken.now self.now.tended.now self.now.owed.now programs.now bells.now) }
+        ensures { IfSome result (λ rest. rest ≡ rest_seen self.now.weights.now self.now.taken.now self.now.tended.now self.now.owed.now programs.now
+            bells.now) }
     {
         let words = words_at_rest(self.weights.prices.as_slice(), self.taken)?;
         let lines = lines_at_rest(self.weights, bells, self.tended)?;
@@ -413,7 +419,8 @@ impl Claim<'_> {
 
     /// Whether the weights pay for what threads of the level ask, and what is said to rest does.
     pub(crate) fn is_paid(&self, programs: &[ProgramView], bells: &[Option<Bell>]) -> bool
-        ensures { result ≡ are_paid self.now.priority self.now.weights.now self.now.settled.now self.now.taken.now self.now.tended.now self.now.owed.now programs.now bells.now }
+        ensures { result ≡ are_paid self.now.priority self.now.weights.now self.now.settled.now self.now.taken.now self.now.tended.now self.now.owed.now
+            programs.now bells.now }
     {
         let waits = Waits {
             weights: self.weights,
@@ -438,7 +445,8 @@ impl Claim<'_> {
         most: u64,
         steps: u64,
     ) -> bool
-        ensures { result ≡ sums_fit self.now.priority self.now.rates.now self.now.weights.now self.now.taken.now programs.now bells.now sums.now.rest sums.now.costs most steps }
+        ensures { result ≡ sums_fit self.now.priority self.now.rates.now self.now.weights.now self.now.taken.now programs.now bells.now sums.now.rest
+            sums.now.costs most steps }
     {
         let rings = Rings {
             weights: self.weights,

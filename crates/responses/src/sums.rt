@@ -60,7 +60,8 @@ fn first_lines_at_rest(
     lines: &[AcknowledgedLine],
     count: u32,
 ) -> Option<u64>
-    ensures { IfSome result (λ sum. sum ≡ total (λ line. if is_open_among lines.now line then 0 else price_of_line weights.now.prices.items bells.now line) (range_with_len 0 count)) }
+    ensures { IfSome result (λ sum. sum ≡ total (λ line. if is_open_among lines.now line then 0 else price_of_line weights.now.prices.items bells.now line)
+        (range_with_len 0 count)) }
 {
     let mut sum = 0u64;
     for line in 0..count {
@@ -75,7 +76,8 @@ pub(crate) fn lines_at_rest(
     bells: &[Option<Bell>],
     lines: &[AcknowledgedLine],
 ) -> Option<u64>
-    ensures { IfSome result (λ sum. sum ≡ total (λ line. if is_open_among lines.now line then 0 else price_of_line weights.now.prices.items bells.now line) (range_with_len 0 64)) }
+    ensures { IfSome result (λ sum. sum ≡ total (λ line. if is_open_among lines.now line then 0 else price_of_line weights.now.prices.items bells.now line)
+        (range_with_len 0 64)) }
 {
     first_lines_at_rest(weights, bells, lines, LINES)
 }
@@ -128,7 +130,8 @@ pub(crate) fn is_high(priority: u32, program: &ProgramView) -> bool
 
 /// What a thread has left where it starts, if it is of the level.
 fn left_of(weights: &Weights, priority: u32, program: &ProgramView) -> Option<u64>
-    ensures { IfSome result (λ left. left ≡ (if is_high priority program.now then program.now.header.budget + (weights_of weights.now).still program.now.number program.now.header.entry else 0)) }
+    ensures { IfSome result (λ left. left ≡ (if is_high priority program.now
+        then program.now.header.budget + (weights_of weights.now).still program.now.number program.now.header.entry else 0)) }
 {
     if !is_high(priority, program) {
         return Some(0);
@@ -145,7 +148,8 @@ pub(crate) fn left_at_start(
     priority: u32,
     programs: &[ProgramView],
 ) -> Option<u64>
-    ensures { IfSome result (λ sum. sum ≡ total (λ p. if is_high priority p then p.header.budget + (weights_of weights.now).still p.number p.header.entry else 0) programs.now) }
+    ensures { IfSome result (λ sum. sum ≡ total
+        (λ p. if is_high priority p then p.header.budget + (weights_of weights.now).still p.number p.header.entry else 0) programs.now) }
 {
     let mut sum = 0u64;
     for program in programs {

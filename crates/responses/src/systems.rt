@@ -42,7 +42,8 @@ impl<'i, 'a> Model for Levels<'i, 'a> {
 
     ghost view = { λ l. l.image.now };
 
-    ghost invariant = { λ l. IsWellFormed l.image.now × (whole_image.fits l.image.now ≡ true) × AreProgramViews l.image.now 0 l.image.now.threads l.programs.items × AreBells l.image.now l.bells.items };
+    ghost invariant = { λ l. IsWellFormed l.image.now × (whole_image.fits l.image.now ≡ true)
+        × AreProgramViews l.image.now 0 l.image.now.threads l.programs.items × AreBells l.image.now l.bells.items };
 }
 
 /// The threads and lines of an accepted image. It takes time as its verification does.
@@ -76,14 +77,17 @@ pub fn levels_of<'i, 'a>(
 impl Levels<'_, '_> {
     /// What may be left where no thread of the level is ready.
     pub(crate) fn rest(&self, claim: &Claim<'_>) -> Option<u64>
-        ensures { IfSome result (λ rest. rest ≡ rest_with self.now (response_of claim.now.weights.now claim.now.taken.now claim.now.tended.now 0 0) (number_at claim.now.owed.now)) }
+        ensures { IfSome result (λ rest. rest ≡ rest_with self.now (response_of claim.now.weights.now claim.now.taken.now claim.now.tended.now 0 0)
+            (number_at claim.now.owed.now)) }
     {
         claim.rest(self.programs.as_slice(), self.bells.as_slice())
     }
 
     /// Whether no more than so much may be left once the level has rested, and with that it runs for no more than so many steps on end.
     pub(crate) fn holds_rested(&self, claim: &Claim<'_>, most: u64, steps: u64) -> bool
-        ensures { result ≡ true → passes_settled_rested self.now claim.now.priority (map rate_of claim.now.rates.now) (response_of claim.now.weights.now claim.now.taken.now claim.now.tended.now most steps) (settlement_of claim.now.settled.now) (number_at claim.now.owed.now) ≡ true }
+        ensures { result ≡ true → passes_settled_rested self.now claim.now.priority (map rate_of claim.now.rates.now)
+            (response_of claim.now.weights.now claim.now.taken.now claim.now.tended.now most steps) (settlement_of claim.now.settled.now)
+            (number_at claim.now.owed.now) ≡ true }
     {
         let programs = self.programs.as_slice();
         let bells = self.bells.as_slice();
@@ -101,7 +105,9 @@ impl Levels<'_, '_> {
 
     /// Whether that is so from the start on.
     pub(crate) fn holds(&self, claim: &Claim<'_>, most: u64, steps: u64) -> bool
-        ensures { result ≡ true → passes_settled self.now claim.now.priority (map rate_of claim.now.rates.now) (response_of claim.now.weights.now claim.now.taken.now claim.now.tended.now most steps) (settlement_of claim.now.settled.now) (number_at claim.now.owed.now) ≡ true }
+        ensures { result ≡ true → passes_settled self.now claim.now.priority (map rate_of claim.now.rates.now)
+            (response_of claim.now.weights.now claim.now.taken.now claim.now.tended.now most steps) (settlement_of claim.now.settled.now)
+            (number_at claim.now.owed.now) ≡ true }
     {
         threads_are_as_listed();
         programs_have_their_places();

@@ -17,8 +17,8 @@ fn image_bytes<'a>(alloc: Global, text: &str) -> Result<Vec<u8>, Failure<'a>> {
 ///
 /// # Errors
 ///
-/// The first of: the image would be written over the source, the source cannot be read or is no text in UTF-8 (its name), the text is at fault (`Source`), the image cannot be
-/// written (its name), or memory was refused.
+/// The first of: the image would be written over the source, the source cannot be read or is no text in UTF-8 (its name), the text is
+/// at fault (`Source`), the image cannot be written (its name), or memory was refused.
 pub(crate) fn build<'a, R: Files + AllocGlobal>(
     rt: &R,
     source: &'a str,

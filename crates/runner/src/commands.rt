@@ -100,7 +100,8 @@ impl From<WordsFault> for Failure<'_> {
 }
 
 impl From<EventsFault> for Failure<'_> {
-    ghost from_gives = { λ fault failure. ((line : ℕ) → fault ≡ EventsFault.Line line → failure ≡ Failure.Events line) × (fault ≡ EventsFault.OutOfMemory → failure ≡ Failure.Memory) };
+    ghost from_gives = { λ fault failure. ((line : ℕ) → fault ≡ EventsFault.Line line → failure ≡ Failure.Events line)
+        × (fault ≡ EventsFault.OutOfMemory → failure ≡ Failure.Memory) };
 
     fn from(fault: EventsFault) -> Self {
         match fault {
@@ -119,7 +120,8 @@ impl From<SourceFault> for Failure<'_> {
 }
 
 impl From<Refusal> for Failure<'_> {
-    ghost from_gives = { λ refusal failure. (refusal ≡ Refusal.OutOfMemory → failure ≡ Failure.Memory) × (refusal ≢ Refusal.OutOfMemory → failure ≡ Failure.Image refusal) };
+    ghost from_gives = { λ refusal failure. (refusal ≡ Refusal.OutOfMemory → failure ≡ Failure.Memory)
+        × (refusal ≢ Refusal.OutOfMemory → failure ≡ Failure.Image refusal) };
 
     fn from(refusal: Refusal) -> Self {
         match refusal {
@@ -130,7 +132,10 @@ impl From<Refusal> for Failure<'_> {
 }
 
 impl From<RunFault> for Failure<'_> {
-    ghost from_gives = { λ fault failure. (fault ≡ RunFault.Output → failure ≡ Failure.Output) × (fault ≡ RunFault.OutOfMemory → failure ≡ Failure.Memory) × ((refusal : Refusal) → fault ≡ RunFault.Refused refusal → refusal ≢ Refusal.OutOfMemory → failure ≡ Failure.Image refusal) × ((index : ℕ) → fault ≡ RunFault.Outside index → failure ≡ Failure.Outside index) × ((boot : BootFault) → fault ≡ RunFault.Boot boot → failure ≡ Failure.Boot boot) };
+    ghost from_gives = { λ fault failure. (fault ≡ RunFault.Output → failure ≡ Failure.Output) × (fault ≡ RunFault.OutOfMemory → failure ≡ Failure.Memory)
+        × ((refusal : Refusal) → fault ≡ RunFault.Refused refusal → refusal ≢ Refusal.OutOfMemory → failure ≡ Failure.Image refusal)
+        × ((index : ℕ) → fault ≡ RunFault.Outside index → failure ≡ Failure.Outside index)
+        × ((boot : BootFault) → fault ≡ RunFault.Boot boot → failure ≡ Failure.Boot boot) };
 
     fn from(fault: RunFault) -> Self {
         match fault {

@@ -76,11 +76,15 @@ pub fn live<L: EventLines, S: Sink>(
     // All lines are answered: the image is accepted, its run over the events that they ask for is safe, and exactly the lines of its trace are put.
     ensures ok { OnOk result (Answers bytes.now (λ _. GivesAll (L.left lines.old) (L.left lines.new)) (Grows (S.contents sink.old) (S.contents sink.new))) }
     // So it is for the lines before one that is malformed, or does not keep to the device pages,
-    ensures line { (number : ℕ) → result ≡ Err (LiveFault.Line number) → Answers bytes.now (StopsAt number (L.left lines.old) (L.left lines.new)) (Grows (S.contents sink.old) (S.contents sink.new)) }
+    ensures line { (number : ℕ) → result ≡ Err (LiveFault.Line number)
+        → Answers bytes.now (StopsAt number (L.left lines.old) (L.left lines.new)) (Grows (S.contents sink.old) (S.contents sink.new)) }
     // and for those before the input could not be read.
-    ensures input { result ≡ Err LiveFault.Input → Answers bytes.now (λ _. StopsShort (L.left lines.old) (L.left lines.new)) (Grows (S.contents sink.old) (S.contents sink.new)) }
+    ensures input { result ≡ Err LiveFault.Input
+        → Answers bytes.now (λ _. StopsShort (L.left lines.old) (L.left lines.new)) (Grows (S.contents sink.old) (S.contents sink.new)) }
     // Where the sink fails, its count of failures says so, and a beginning of those lines is put.
-    ensures output { result ≡ Err LiveFault.Output → Answers bytes.now (λ _. GivesLines (L.left lines.old) (L.left lines.new)) (GrowsByBeginning (S.contents sink.old) (S.contents sink.new)) × Failed (S.failures sink.old) (S.failures sink.new) }
+    ensures output { result ≡ Err LiveFault.Output
+        → Answers bytes.now (λ _. GivesLines (L.left lines.old) (L.left lines.new)) (GrowsByBeginning (S.contents sink.old) (S.contents sink.new))
+        × Failed (S.failures sink.old) (S.failures sink.new) }
     // What does not begin puts nothing, and asks for no line.
     ensures start { (fault : RunFault) → result ≡ Err (LiveFault.Start fault) → (sink.new ≡ sink.old) × (lines.new ≡ lines.old) }
     // A refusal is the first breach.
@@ -125,13 +129,18 @@ pub fn live_unverified<L: EventLines, S: Sink>(
     sink: &mut S,
 ) -> Result<(), LiveFault>
     // All lines are answered: the image boots, and all lines of the kernel's trace over the events that they ask for are put.
-    ensures ok { OnOk result (AnswersBooted bytes.now (λ _. GivesAll (L.left lines.old) (L.left lines.new)) (Grows (S.contents sink.old) (S.contents sink.new))) }
+    ensures ok { OnOk result (AnswersBooted bytes.now (λ _. GivesAll (L.left lines.old) (L.left lines.new))
+        (Grows (S.contents sink.old) (S.contents sink.new))) }
     // So it is for the lines before one that is malformed, or does not keep to the device pages,
-    ensures line { (number : ℕ) → result ≡ Err (LiveFault.Line number) → AnswersBooted bytes.now (StopsAt number (L.left lines.old) (L.left lines.new)) (Grows (S.contents sink.old) (S.contents sink.new)) }
+    ensures line { (number : ℕ) → result ≡ Err (LiveFault.Line number)
+        → AnswersBooted bytes.now (StopsAt number (L.left lines.old) (L.left lines.new)) (Grows (S.contents sink.old) (S.contents sink.new)) }
     // and for those before the input could not be read.
-    ensures input { result ≡ Err LiveFault.Input → AnswersBooted bytes.now (λ _. StopsShort (L.left lines.old) (L.left lines.new)) (Grows (S.contents sink.old) (S.contents sink.new)) }
+    ensures input { result ≡ Err LiveFault.Input
+        → AnswersBooted bytes.now (λ _. StopsShort (L.left lines.old) (L.left lines.new)) (Grows (S.contents sink.old) (S.contents sink.new)) }
     // Where the sink fails, its count of failures says so, and a beginning of those lines is put.
-    ensures output { result ≡ Err LiveFault.Output → AnswersBooted bytes.now (λ _. GivesLines (L.left lines.old) (L.left lines.new)) (GrowsByBeginning (S.contents sink.old) (S.contents sink.new)) × Failed (S.failures sink.old) (S.failures sink.new) }
+    ensures output { result ≡ Err LiveFault.Output
+        → AnswersBooted bytes.now (λ _. GivesLines (L.left lines.old) (L.left lines.new)) (GrowsByBeginning (S.contents sink.old) (S.contents sink.new))
+        × Failed (S.failures sink.old) (S.failures sink.new) }
     // What does not begin puts nothing, and asks for no line.
     ensures start { (fault : RunFault) → result ≡ Err (LiveFault.Start fault) → (sink.new ≡ sink.old) × (lines.new ≡ lines.old) }
     // A refusal is that of the reading,
@@ -174,11 +183,13 @@ fn answer_lines<L: EventLines, S: Sink>(
     ensures ok { OnOk result ((image : Image) → AreDevicePages image image.header.objects pages.now
         → AnswersFrom image (state_in system.old) (GivesAll (L.left lines.old) (L.left lines.new)) (Grows (S.contents sink.old) (S.contents sink.new))) }
     ensures line { (number : ℕ) → result ≡ Err (LiveFault.Line number) → (image : Image) → AreDevicePages image image.header.objects pages.now
-        → AnswersFrom image (state_in system.old) (StopsAt number (L.left lines.old) (L.left lines.new) image) (Grows (S.contents sink.old) (S.contents sink.new)) }
+        → AnswersFrom image (state_in system.old) (StopsAt number (L.left lines.old) (L.left lines.new) image)
+        (Grows (S.contents sink.old) (S.contents sink.new)) }
     ensures input { result ≡ Err LiveFault.Input → (image : Image) → AreDevicePages image image.header.objects pages.now
         → AnswersFrom image (state_in system.old) (StopsShort (L.left lines.old) (L.left lines.new)) (Grows (S.contents sink.old) (S.contents sink.new)) }
     ensures output { result ≡ Err LiveFault.Output → ((image : Image) → AreDevicePages image image.header.objects pages.now
-        → AnswersFrom image (state_in system.old) (GivesLines (L.left lines.old) (L.left lines.new)) (GrowsByBeginning (S.contents sink.old) (S.contents sink.new))) × Failed (S.failures sink.old) (S.failures sink.new) }
+        → AnswersFrom image (state_in system.old) (GivesLines (L.left lines.old) (L.left lines.new))
+        (GrowsByBeginning (S.contents sink.old) (S.contents sink.new))) × Failed (S.failures sink.old) (S.failures sink.new) }
     ensures begun { (fault : RunFault) → result ≢ Err (LiveFault.Start fault) }
 {
     'lines: for done in 0..u64::MAX {
@@ -198,7 +209,8 @@ fn answer_next<L: EventLines, S: Sink>(
     sink: &mut S,
 ) -> Result<bool, LiveFault>
     ensures next { (image : Image) → AreDevicePages image image.header.objects pages.now
-        → NextAnswer image number (state_in system.old) (state_in system.new) (L.left lines.old) (L.left lines.new) (S.contents sink.old) (S.contents sink.new) result }
+        → NextAnswer image number (state_in system.old) (state_in system.new) (L.left lines.old) (L.left lines.new) (S.contents sink.old)
+        (S.contents sink.new) result }
     ensures kept { OnOk result (S.failures sink.new ≡ S.failures sink.old) }
     ensures failed { result ≡ Err LiveFault.Output → Failed (S.failures sink.old) (S.failures sink.new) }
     ensures begun { (fault : RunFault) → result ≢ Err (LiveFault.Start fault) }

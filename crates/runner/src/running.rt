@@ -105,7 +105,8 @@ pub fn run<S: Sink>(
     // Where memory is refused, nothing is put.
     ensures memory { result ≡ Err RunFault.OutOfMemory → sink.new ≡ sink.old }
     // Where the sink fails, its count of failures says so, and a beginning of those lines is put.
-    ensures output { result ≡ Err RunFault.Output → PutsSome bytes.now events.now (S.contents sink.old) (S.contents sink.new) × Failed (S.failures sink.old) (S.failures sink.new) }
+    ensures output { result ≡ Err RunFault.Output
+        → PutsSome bytes.now events.now (S.contents sink.old) (S.contents sink.new) × Failed (S.failures sink.old) (S.failures sink.new) }
     // Out of memory is no refusal.
     ensures enough { result ≢ Err (RunFault.Refused Refusal.OutOfMemory) }
     // Each image boots.

@@ -40,13 +40,15 @@ pub fn run_unverified<S: Sink>(
     // What is outside is the first event that does not keep to the device pages of the image that is read, and nothing is put.
     ensures outside { (index : ℕ) → result ≡ Err (RunFault.Outside index) → ReadsOutside bytes.now events.now index × (sink.new ≡ sink.old) }
     // Where there is such an event, nothing else is answered but that memory is refused.
-    ensures inside { IfOk (reading whole_image bytes.now) (λ image. IfSome (first_outside image events.now) (λ index. (result ≡ Err (RunFault.Outside index)) ⊎ (result ≡ Err RunFault.OutOfMemory))) }
+    ensures inside { IfOk (reading whole_image bytes.now)
+        (λ image. IfSome (first_outside image events.now) (λ index. (result ≡ Err (RunFault.Outside index)) ⊎ (result ≡ Err RunFault.OutOfMemory))) }
     // The image that is read does not boot, for this reason, and nothing is put.
     ensures boot { (fault : BootFault) → result ≡ Err (RunFault.Boot fault) → FailsToBoot bytes.now fault × (sink.new ≡ sink.old) }
     // Where memory is refused, nothing is put.
     ensures memory { result ≡ Err RunFault.OutOfMemory → sink.new ≡ sink.old }
     // Where the sink fails, its count of failures says so, and a beginning of those lines is put.
-    ensures output { result ≡ Err RunFault.Output → PutsTraceBeginning bytes.now events.now (S.contents sink.old) (S.contents sink.new) × Failed (S.failures sink.old) (S.failures sink.new) }
+    ensures output { result ≡ Err RunFault.Output
+        → PutsTraceBeginning bytes.now events.now (S.contents sink.old) (S.contents sink.new) × Failed (S.failures sink.old) (S.failures sink.new) }
     // Out of memory is no refusal,
     ensures enough { result ≢ Err (RunFault.Refused Refusal.OutOfMemory) }
     // and no fault of booting.

@@ -135,7 +135,8 @@ pub fn write_register<R: Registers>(registers: &mut R, rd: Register, value: u32)
 fn jump<R: Registers>(registers: &mut R, rd: Register, target: u32) -> Exec
     requires { IsRegister rd }
     ensures outcome { result ≡ (if target % 4 == 0 then Exec.Next else Exec.Trap Cause.Misaligned) }
-    ensures registers { R.file registers.new ≡ (if target % 4 == 0 then record (write (R.file registers.old) rd (next_pc (R.file registers.old))) { pc = target } else R.file registers.old) }
+    ensures registers { R.file registers.new
+        ≡ (if target % 4 == 0 then record (write (R.file registers.old) rd (next_pc (R.file registers.old))) { pc = target } else R.file registers.old) }
     ensures beside { R.rest registers.new ≡ R.rest registers.old }
 {
     if target % 4 != 0 {

@@ -3,7 +3,8 @@
 ghost use Rattle.std.specs.Prelude.{◌≡◌, ◌⊎◌, Some, IfSome};
 ghost use Rattle.model.specs.declared.instructions.Instr.{Instr};
 ghost use Rattle.model.specs.Machine.Instructions.{IsBranchOffset, Spells, b_type, bits, upper_opcode};
-ghost use Rattle.model.specs.Machine.Decoding.{b_offset, decoded, decoded_branch, decoded_immediate, decoded_jal, decoded_jalr, decoded_load, decoded_registers, decoded_shift, decoded_store, decoded_system, decoded_upper};
+ghost use Rattle.model.specs.Machine.Decoding.{b_offset, decoded, decoded_branch, decoded_immediate, decoded_jal, decoded_jalr, decoded_load};
+ghost use Rattle.model.specs.Machine.Decoding.{decoded_registers, decoded_shift, decoded_store, decoded_system, decoded_upper};
 
 use crate::fields::{field, register, signed};
 use crate::operations::{branch_op, immediate_op, load_op, register_op, shift_op, store_op};

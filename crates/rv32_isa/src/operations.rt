@@ -8,7 +8,8 @@ ghost use Rattle.model.specs.declared.instructions.StoreOp.{StoreOp};
 ghost use Rattle.model.specs.declared.instructions.ImmediateOp.{ImmediateOp};
 ghost use Rattle.model.specs.declared.instructions.ShiftOp.{ShiftOp};
 ghost use Rattle.model.specs.declared.instructions.RegisterOp.{RegisterOp};
-ghost use Rattle.model.specs.Machine.Instructions.{upper_opcode, branch_funct3, load_funct3, store_funct3, immediate_funct3, shift_funct3, shift_funct7, register_funct3, register_funct7};
+ghost use Rattle.model.specs.Machine.Instructions.{upper_opcode, branch_funct3, load_funct3, store_funct3, immediate_funct3};
+ghost use Rattle.model.specs.Machine.Instructions.{shift_funct3, shift_funct7, register_funct3, register_funct7};
 ghost use Rattle.model.specs.Machine.Decoding.{branch_op, load_op, store_op, immediate_op, shift_op, register_op};
 
 use model::{BranchOp, ImmediateOp, LoadOp, RegisterOp, ShiftOp, StoreOp, UpperOp};

@@ -3,9 +3,11 @@
 //! does nothing.
 #![tactic(auto)]
 
-ghost use Rattle.settled_threads.specs.Laws.{CallersAreOwed, SettledLeftAtRest, SettledLevelsRestLater, SettledLevelsRestWithin, SettledLinesAreDealtWith, SettledLinesAreDealtWithLater};
+ghost use Rattle.settled_threads.specs.Laws.{CallersAreOwed, SettledLeftAtRest, SettledLevelsRestLater};
+ghost use Rattle.settled_threads.specs.Laws.{SettledLevelsRestWithin, SettledLinesAreDealtWith, SettledLinesAreDealtWithLater};
 ghost use Rattle.settled_threads.specs.Laws.{SettledThreadsDeal, SettledThreadsOweNothing, SettledThreadsRest};
-ghost use Rattle.settled_threads.specs.Laws.{AloneResponsesDeal, RestedAloneResponsesDeal, RestedSettledResponsesDeal, RestedSettledResponsesHold, SettledResponsesDeal, SettledResponsesHold, TestedThreadsRest};
+ghost use Rattle.settled_threads.specs.Laws.{AloneResponsesDeal, RestedAloneResponsesDeal, RestedSettledResponsesDeal};
+ghost use Rattle.settled_threads.specs.Laws.{RestedSettledResponsesHold, SettledResponsesDeal, SettledResponsesHold, TestedThreadsRest};
 
 use headline::authority::{
     a_tick_stays_within_authority, an_interrupt_stays_within_authority,

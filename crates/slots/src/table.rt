@@ -2,7 +2,8 @@
 
 ghost use Rattle.std.specs.Prelude.{ℕ, ◌≡◌, ◌+◌, ◌-◌, ◌^◌, ◌<◌, ◌≤◌, None, IfOk, length, replicate, if◌then◌else◌};
 ghost use Rattle.std.specs.Option.{ForSome, option_map};
-ghost use Rattle.model.specs.Capabilities.Slots.{IsFull, adopted, capability_at, depth_of, empty_entry, is_empty, is_full, is_within, parent_at, recapped, relocated, spliced, with_entry, with_parent};
+ghost use Rattle.model.specs.Capabilities.Slots.{IsFull, adopted, capability_at, depth_of, empty_entry, is_empty, is_full, is_within};
+ghost use Rattle.model.specs.Capabilities.Slots.{parent_at, recapped, relocated, spliced, with_entry, with_parent};
 ghost use Rattle.model.specs.Capabilities.Orders.{next_in, first_of};
 ghost use Rattle.slots.specs.Table.{full_from, table_slots};
 

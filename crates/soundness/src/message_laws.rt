@@ -1,6 +1,8 @@
 //! Messages, faults, replies, signals and interrupts keep soundness.
 
-ghost use Rattle.soundness.specs.Laws.{AcknowledgementKeepsSoundness, FaultKeepsSoundness, InterruptKeepsSoundness, PollKeepsSoundness, ReceiveKeepsSoundness, ReplyKeepsSoundness, SendKeepsSoundness, SignalKeepsSoundness, TryToReceiveKeepsSoundness, TryToSendKeepsSoundness, WaitKeepsSoundness};
+ghost use Rattle.soundness.specs.Laws.{AcknowledgementKeepsSoundness, FaultKeepsSoundness, InterruptKeepsSoundness, PollKeepsSoundness};
+ghost use Rattle.soundness.specs.Laws.{ReceiveKeepsSoundness, ReplyKeepsSoundness, SendKeepsSoundness, SignalKeepsSoundness};
+ghost use Rattle.soundness.specs.Laws.{TryToReceiveKeepsSoundness, TryToSendKeepsSoundness, WaitKeepsSoundness};
 
 /// A thread that runs sends, or waits to.
 pub fn send_keeps_soundness()

@@ -1,6 +1,7 @@
 //! What the loader does keeps soundness.
 
-ghost use Rattle.soundness.specs.Laws.{FillingKeepsSoundness, InterruptControlKeepsSoundness, LoaderCallsKeepSoundness, UntypedMemoryIsPutBehindObjects, UntypedMemoryKeepsSoundness};
+ghost use Rattle.soundness.specs.Laws.{FillingKeepsSoundness, InterruptControlKeepsSoundness, LoaderCallsKeepSoundness};
+ghost use Rattle.soundness.specs.Laws.{UntypedMemoryIsPutBehindObjects, UntypedMemoryKeepsSoundness};
 
 /// Untyped memory, wherever it may be put.
 pub fn untyped_memory_keeps_soundness()

@@ -1,6 +1,7 @@
 //! Calls on threads, ticks and plain steps keep soundness.
 
-ghost use Rattle.soundness.specs.Laws.{PlainStepKeepsSoundness, ResumeKeepsSoundness, SetPriorityKeepsSoundness, SetRegisterKeepsSoundness, SuspendKeepsSoundness, TickKeepsSoundness, YieldKeepsSoundness};
+ghost use Rattle.soundness.specs.Laws.{PlainStepKeepsSoundness, ResumeKeepsSoundness, SetPriorityKeepsSoundness};
+ghost use Rattle.soundness.specs.Laws.{SetRegisterKeepsSoundness, SuspendKeepsSoundness, TickKeepsSoundness, YieldKeepsSoundness};
 
 /// Another priority keeps soundness.
 pub fn set_priority_keeps_soundness()

@@ -137,7 +137,8 @@ fn declaration_form(word: &str) -> Option<Form> {
         "untyped" => ("NAME OFFSET BITS", "BITS is 4 to 24; at most 64 such lines"),
         "object" => (
             "NAME UNTYPED KIND [SIZE]",
-            "KIND is untyped (SIZE 4 to 24), cnode (SIZE 1 to 14), tcb, endpoint, notification, frame (SIZE 1: a device page), table or root; the untyped memories come in their order",
+            "KIND is untyped (SIZE 4 to 24), cnode (SIZE 1 to 14), tcb, endpoint, notification, frame (SIZE 1: a device page), table or root; \
+             the untyped memories come in their order",
         ),
         "irq" => (
             "NAME LINE NOTIFICATION BADGE",

@@ -147,7 +147,8 @@ fn report_room(
     let whole = power(untyped.bits);
     write!(
         to,
-        "no room: `{name}` (line {line}) has {whole:#x} bytes, and this object of {size:#x} bytes would end at {wanted:#x}, after those before it\n  make the memory larger, or put small objects after large ones\n"
+        "no room: `{name}` (line {line}) has {whole:#x} bytes, and this object of {size:#x} bytes would end at {wanted:#x}, after those before it\n  \
+         make the memory larger, or put small objects after large ones\n"
     )
 }
 

@@ -26,7 +26,8 @@ fn first_in_both(own: &NumberSet, others: &NumberSet) -> Option<u32> {
 fn report_thread_guard(to: &mut String, guard: u32, radix: u32) -> Result<(), AllocError> {
     write!(
         to,
-        "has the guard word {guard:#x}, which is not valid for a CNode of 2^{radix} slots: its low 5 bits are the guard's size, at most 32 - {radix}, and the guard above them fits into it\n"
+        "has the guard word {guard:#x}, which is not valid for a CNode of 2^{radix} slots: its low 5 bits are the guard's size, at most 32 - {radix}, and the \
+         guard above them fits into it\n"
     )
 }
 

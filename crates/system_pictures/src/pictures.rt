@@ -35,7 +35,8 @@ impl Picturing<'_, '_, '_> {
         let height = height.saturating_add(24);
         write!(
             self.svg,
-            "<svg class=\"mp\" xmlns=\"http://www.w3.org/2000/svg\" role=\"img\" aria-label=\"the system\" width=\"{WIDTH}\" height=\"{height}\" viewBox=\"0 0 {WIDTH} {height}\">\n"
+            "<svg class=\"mp\" xmlns=\"http://www.w3.org/2000/svg\" role=\"img\" aria-label=\"the system\" width=\"{WIDTH}\" height=\"{height}\" \
+             viewBox=\"0 0 {WIDTH} {height}\">\n"
         )?;
         self.svg.push_str(STYLE)
     }
@@ -300,7 +301,8 @@ mod tests {
     use std::test::Fail;
 
     const TEXT: &str =
-        "memory 16 4\nuntyped u 0x1000 14\nobject teller u tcb\nobject bell u notification\nobject cs u cnode 4\nobject vs u root\nirq beat 7 bell 2\ncap cs 1 bell 3 5\nthread teller cs 0 vs 7 100 0 start 0x1000\nstart: jal x0 start\nend\n";
+        "memory 16 4\nuntyped u 0x1000 14\nobject teller u tcb\nobject bell u notification\nobject cs u cnode 4\nobject vs u root\nirq beat 7 bell 2\n\
+         cap cs 1 bell 3 5\nthread teller cs 0 vs 7 100 0 start 0x1000\nstart: jal x0 start\nend\n";
 
     #[test]
     fn a_thread_rings_and_waits(rt: HostRuntime) -> Result<(), Fail> {

@@ -22,7 +22,10 @@ pub(crate) const WIDTH: u32 = 732;
 
 /// How the signs of a picture look. Without colours they are told apart by their dashes.
 pub(crate) const STYLE: &str =
-    "<style>.mp text{font:10px Helvetica,Arial,sans-serif;fill:#000}.mp .n{font-size:12px;font-weight:bold}.mp .s{fill:#444}.mp .e{text-anchor:end}.mp rect{stroke:#222;fill:#fff}.mp .t{fill:#e6edf6}.mp .d{fill:#e3f1e1}.mp .b{fill:#fbf4d9}.mp .p{fill:#f8e9de}.mp .m{fill:#eee}.mp .x{fill:#f1e1ea}.mp path{fill:none;stroke:#222}.mp .ad{stroke:#2f6b2a;stroke-width:1.5}.mp .ab{stroke:#8a6a0a;stroke-dasharray:6 3}.mp .ap{stroke:#9a5222}.mp .am{stroke:#555;stroke-dasharray:2 3}.mp .ax{stroke:#7a2f60;stroke-width:1.2}.mp .h{fill:#222;stroke:none}</style>\n";
+    "<style>.mp text{font:10px Helvetica,Arial,sans-serif;fill:#000}.mp .n{font-size:12px;font-weight:bold}.mp .s{fill:#444}.mp .e{text-anchor:end}\
+     .mp rect{stroke:#222;fill:#fff}.mp .t{fill:#e6edf6}.mp .d{fill:#e3f1e1}.mp .b{fill:#fbf4d9}.mp .p{fill:#f8e9de}.mp .m{fill:#eee}.mp .x{fill:#f1e1ea}\
+     .mp path{fill:none;stroke:#222}.mp .ad{stroke:#2f6b2a;stroke-width:1.5}.mp .ab{stroke:#8a6a0a;stroke-dasharray:6 3}.mp .ap{stroke:#9a5222}\
+     .mp .am{stroke:#555;stroke-dasharray:2 3}.mp .ax{stroke:#7a2f60;stroke-width:1.2}.mp .h{fill:#222;stroke:none}</style>\n";
 
 /// What the signs mean.
 pub(crate) const LEGEND: &str =

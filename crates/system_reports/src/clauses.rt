@@ -77,23 +77,28 @@ impl Clause {
                 "The digits are those of the SHA-256 of the bytes that were verified, as the definition of sha2 says."
             }
             Clause::SafeRun => {
-                "If a run ends well, the image is accepted, it booted with no kernel error into the state that it describes, no line of the trace is a fault or an error, and no thread takes more steps from one wait to the next than its budget."
+                "If a run ends well, the image is accepted, it booted with no kernel error into the state that it describes, no line of the trace is a fault \
+                 or an error, and no thread takes more steps from one wait to the next than its budget."
             }
             Clause::Promises => "Each message that waits keeps the promise of its endpoint.",
             Clause::Authority => {
-                "Each event changes only what authority lets it; over a whole run a byte changes only where a thread that made one of the steps may write by the image, or where the world wrote a word of a device page."
+                "Each event changes only what authority lets it; over a whole run a byte changes only where a thread that made one of the steps may write by \
+                 the image, or where the world wrote a word of a device page."
             }
             Clause::Held => {
-                "After any events each capability in the slots of a thread is covered by one that the image lists for it, or is to memory that it was given, or is a handler that is listed for it."
+                "After any events each capability in the slots of a thread is covered by one that the image lists for it, or is to memory that it was given, \
+                 or is a handler that is listed for it."
             }
             Clause::TakesNothing => {
-                "The answer is the Boolean of the definition: whether no thread outside may change anything that a thread of the part takes, by the capabilities, mappings, message buffers and handlers of the image."
+                "The answer is the Boolean of the definition: whether no thread outside may change anything that a thread of the part takes, by the \
+                 capabilities, mappings, message buffers and handlers of the image."
             }
             Clause::Responses => {
                 "Over all events that keep the rates no more steps on end are of the threads of a priority and above than the bound says."
             }
             Clause::Kept => {
-                "Over all events that keep the rates of the text, once the threads of its priority and above have rested, such a thread has dealt with each interrupt of such a line within so many steps of theirs."
+                "Over all events that keep the rates of the text, once the threads of its priority and above have rested, such a thread has dealt with each \
+                 interrupt of such a line within so many steps of theirs."
             }
             Clause::Refused => {
                 "A refusal is the first rule that the image breaks, or that memory was refused."

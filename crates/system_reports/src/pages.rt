@@ -15,7 +15,18 @@ const HEAD: &str =
 
 /// How the page looks.
 const STYLE: &str =
-    "</title>\n<style>\nbody{font:11pt/1.45 Georgia,\"Times New Roman\",serif;color:#000;background:#fff;max-width:46em;margin:2em auto;padding:0 1em}\nh1{font-size:1.5em;margin-bottom:.2em}\nh2{font-size:1.15em;border-bottom:1px solid #777;margin-top:1.8em}\nh3{font-size:1em;margin-bottom:.2em}\np,li{margin:.35em 0}\n.verdict{font-size:1.2em;font-weight:bold;border:2px solid #000;padding:.3em .6em}\n.ground{font:.72em Helvetica,Arial,sans-serif;color:#333;border:1px solid #999;padding:0 .35em;white-space:nowrap;text-decoration:none}\n.clause{border-style:solid;border-width:1px 1px 1px 4px}\n.measured{border-style:dashed}\n.premise{border-style:dotted}\ntable{border-collapse:collapse;font-size:.82em;margin:.6em 0}\nth,td{border:1px solid #999;padding:.12em .45em;text-align:left;vertical-align:top;overflow-wrap:anywhere}\nth{background:#eee}\n.number{text-align:right;font-variant-numeric:tabular-nums;white-space:nowrap}\ncode,pre,.digits{font:.88em Menlo,Consolas,\"DejaVu Sans Mono\",monospace;overflow-wrap:anywhere}\npre{white-space:pre-wrap;border:1px solid #999;padding:.5em}\nsvg{max-width:100%;height:auto}\n@media print{body{max-width:none;margin:0;padding:0;font-size:9.5pt}h2,h3{break-after:avoid}tr,p,li{break-inside:avoid}th{background:none}}\n</style>\n</head>\n<body>\n";
+    "</title>\n<style>\nbody{font:11pt/1.45 Georgia,\"Times New Roman\",serif;color:#000;background:#fff;max-width:46em;margin:2em auto;padding:0 1em}\n\
+     h1{font-size:1.5em;margin-bottom:.2em}\nh2{font-size:1.15em;border-bottom:1px solid #777;margin-top:1.8em}\nh3{font-size:1em;margin-bottom:.2em}\n\
+     p,li{margin:.35em 0}\n.verdict{font-size:1.2em;font-weight:bold;border:2px solid #000;padding:.3em .6em}\n\
+     .ground{font:.72em Helvetica,Arial,sans-serif;color:#333;border:1px solid #999;padding:0 .35em;white-space:nowrap;text-decoration:none}\n\
+     .clause{border-style:solid;border-width:1px 1px 1px 4px}\n.measured{border-style:dashed}\n.premise{border-style:dotted}\n\
+     table{border-collapse:collapse;font-size:.82em;margin:.6em 0}\n\
+     th,td{border:1px solid #999;padding:.12em .45em;text-align:left;vertical-align:top;overflow-wrap:anywhere}\nth{background:#eee}\n\
+     .number{text-align:right;font-variant-numeric:tabular-nums;white-space:nowrap}\n\
+     code,pre,.digits{font:.88em Menlo,Consolas,\"DejaVu Sans Mono\",monospace;overflow-wrap:anywhere}\n\
+     pre{white-space:pre-wrap;border:1px solid #999;padding:.5em}\nsvg{max-width:100%;height:auto}\n\
+     @media print{body{max-width:none;margin:0;padding:0;font-size:9.5pt}h2,h3{break-after:avoid}tr,p,li{break-inside:avoid}th{background:none}}\n</style>\n\
+     </head>\n<body>\n";
 
 /// The sections of the page, with what is above them.
 const SECTIONS: [(Section, &str, &str); 9] = [
@@ -192,7 +203,8 @@ impl Page {
     /// Puts the clauses that sentences name.
     fn push_clauses(&mut self) -> Result<(), AllocError> {
         self.push_raw(
-            "<h2 id=\"clauses\">The clauses</h2>\n<p>Each is a clause of a public function, which the gate of the repository proves; the page that the link names says more of it.</p>\n<table>\n<tr><th>clause</th><th>what it promises</th></tr>\n",
+            "<h2 id=\"clauses\">The clauses</h2>\n<p>Each is a clause of a public function, which the gate of the repository proves; \
+             the page that the link names says more of it.</p>\n<table>\n<tr><th>clause</th><th>what it promises</th></tr>\n",
         )?;
         for clause in CLAUSES {
             let number = clause.number();

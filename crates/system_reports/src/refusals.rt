@@ -66,7 +66,8 @@ pub fn refused_page(alloc: Global, refusing: &Refusing<'_>) -> Result<String, Al
     let mut page = Page::begin(alloc, report.subject.name, "refused")?;
     page.push_subject(&report.subject)?;
     page.push_raw(
-        "<p class=\"verdict\">This system is refused. It is not to be run.</p>\n<p>These lines are those of <code>microsys_tool explain</code>: what it found that stands against each rule. No clause says more of them than that they are found safely.</p>\n<pre>",
+        "<p class=\"verdict\">This system is refused. It is not to be run.</p>\n<p>These lines are those of <code>microsys_tool explain</code>: what it found \
+         that stands against each rule. No clause says more of them than that they are found safely.</p>\n<pre>",
     )?;
     for line in &report.explanation {
         page.push_said(line)?;

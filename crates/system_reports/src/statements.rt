@@ -149,7 +149,8 @@ impl Statements {
         self.say(
             promise,
             Ground::Clause(Clause::Authority),
-            "Each event changes only what authority lets it: over a whole run a byte changes only where a part that ran may write by the image, or where the world wrote a word of a device page.",
+            "Each event changes only what authority lets it: over a whole run a byte changes only where a part that ran may write by the image, or where the \
+             world wrote a word of a device page.",
         )
     }
 
@@ -164,11 +165,13 @@ impl Statements {
         let text = if count == 0 {
             String::from_str(
                 self.alloc,
-                "Over any steps, ticks and interrupts whatever, in any order, the image boots with no kernel error into the state that it describes, and no event is a fault or an error. It has no device page, so the world writes and reads none.",
+                "Over any steps, ticks and interrupts whatever, in any order, the image boots with no kernel error into the state that it describes, and no \
+                 event is a fault or an error. It has no device page, so the world writes and reads none.",
             )?
         } else {
             format!(in self.alloc;
-                "Over any steps, ticks and interrupts whatever, in any order, and whatever the world writes and reads in its device pages ({count}: {devices}), the image boots with no kernel error into the state that it describes, and no event is a fault or an error."
+                "Over any steps, ticks and interrupts whatever, in any order, and whatever the world writes and reads in its device pages \
+                 ({count}: {devices}), the image boots with no kernel error into the state that it describes, and no event is a fault or an error."
             )?
         };
         self.add(Section::Promise, Ground::Clause(Clause::SafeRun), text)
@@ -181,13 +184,15 @@ impl Statements {
             self.say(
                 place,
                 Ground::Premise,
-                "No rates of interrupts are given, so there are bounds only where no line sets anything going that counts. With --rate LINE:BURST:PERIOD there may be more.",
+                "No rates of interrupts are given, so there are bounds only where no line sets anything going that counts. With --rate LINE:BURST:PERIOD there \
+                 may be more.",
             )?;
         }
         for rate in &facts.responding.rates {
             let (line, burst, period) = (rate.line, rate.burst, rate.period);
             let text = format!(in self.alloc;
-                "Interrupts of line {line} come at most so often: {burst} in any stretch of steps, and one more for each {period} steps of it. This is what was given, and not what is proved."
+                "Interrupts of line {line} come at most so often: {burst} in any stretch of steps, and one more for each {period} steps of it. This is what \
+                 was given, and not what is proved."
             )?;
             self.add(place, Ground::Premise, text)?;
         }
@@ -225,7 +230,8 @@ impl Statements {
         match answer {
             Answer::Bound { steps, later, .. } => {
                 let text = format!(in self.alloc;
-                    "Of priority {priority} and above ({names}) no more than {steps} steps on end run from the start on, and no more than {later} once they have rested, whatever the others do, over all events that keep the rates."
+                    "Of priority {priority} and above ({names}) no more than {steps} steps on end run from the start on, and no more than {later} once they \
+                     have rested, whatever the others do, over all events that keep the rates."
                 )?;
                 self.add(Section::Responses, Ground::Clause(Clause::Responses), text)
             }
@@ -269,7 +275,8 @@ impl Statements {
         self.say(
             Section::Access,
             Ground::Clause(Clause::Held),
-            "After any events no part holds more than the image gave it: each capability in its slots is covered by one that is listed for it, or is to memory that it was given, or a listed handler.",
+            "After any events no part holds more than the image gave it: each capability in its slots is covered by one that is listed for it, or is to memory \
+             that it was given, or a listed handler.",
         )
     }
 

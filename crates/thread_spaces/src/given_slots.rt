@@ -23,7 +23,8 @@ fn note_listed(
     entry: CapabilityEntry,
 ) -> Result<(), AllocError>
     requires listed { IsEntry placed.now.image.now entry }
-    ensures { IfOk result (λ _. slots.new.items ≡ slots.old.items ++ (if is_member entry.cnode cnodes.now then listed_slot placed.now.image.now entry ∷ [] else [])) }
+    ensures { IfOk result (λ _. slots.new.items
+        ≡ slots.old.items ++ (if is_member entry.cnode cnodes.now then listed_slot placed.now.image.now entry ∷ [] else [])) }
 {
     if !cnodes.contains(entry.cnode) {
         return Ok(());

@@ -13,7 +13,9 @@ impl GivenThread<'_, '_> {
     /// from, if that is not in the boot CNode.
     pub fn slots_are_own(&self, slots: &NotedSlots<'_>)
         requires { slots.now.image.now ≡ self.now.slots.now }
-        ensures { (point : ℕ) (state : PointState) → state.slots ≡ slots_of slots.now → has_stray_slots self.now.space.image.now self.now.space.thread.now point state ≡ false → AreOwn self.now.space.image.now self.now.space.thread.now (slots_of slots.now) }
+        ensures { (point : ℕ) (state : PointState) → state.slots ≡ slots_of slots.now
+            → has_stray_slots self.now.space.image.now self.now.space.thread.now point state ≡ false
+            → AreOwn self.now.space.image.now self.now.space.thread.now (slots_of slots.now) }
     {
         let _ = self.space.image.header();
     }

@@ -50,7 +50,8 @@ impl Round {
         requires within { IsWithin image.now self.old }
         ensures within { OnOk result (IsWithin image.now self.new) }
         ensures more { OnOk result (AwaitsMore self.old self.new) }
-        ensures one { OnOk result ((c : CapabilityEntry) → slice_get image.now.capabilities number ≡ Some c → is_cnode_source image.now c.source ≡ true → awaits self.new number ≡ true) }
+        ensures one { OnOk result ((c : CapabilityEntry) → slice_get image.now.capabilities number ≡ Some c → is_cnode_source image.now c.source ≡ true
+            → awaits self.new number ≡ true) }
         ensures memory { IfErr result (λ refusal. refusal ≡ OutOfMemory) }
     {
         if !is_cnode_source(image, capability_of(image, number).source) {

@@ -21,10 +21,12 @@ pub fn threads_stand_apart()
 
 /// A thread's root table lies at a page, as its capability asks.
 pub fn root_tables_are_placed()
-    ensures { (image : Image) (t : Thread) → whole_image.fits image ≡ true → IsWellFormed image → IsListed image t → IsPlace (offset_of image t.header.root) 12 }
+    ensures { (image : Image) (t : Thread) → whole_image.fits image ≡ true → IsWellFormed image → IsListed image t
+        → IsPlace (offset_of image t.header.root) 12 }
 {}
 
 /// A thread's program ends in the lower half of the address space, and its entry is one of its words.
 pub fn programs_have_their_places()
-    ensures { (image : Image) (t : Thread) → IsWellFormed image → IsListed image t → (t.header.base + 4 * t.header.words ≤ 2 ^ 31) × (t.header.entry < t.header.words) }
+    ensures { (image : Image) (t : Thread) → IsWellFormed image → IsListed image t
+        → (t.header.base + 4 * t.header.words ≤ 2 ^ 31) × (t.header.entry < t.header.words) }
 {}

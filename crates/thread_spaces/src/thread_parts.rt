@@ -21,7 +21,8 @@ pub struct ThreadParts<'p, 'i, 't, 'a> {
     pub owner: PlacedThread<'p, 'i, 't, 'a>,
     windows: Windows,
     slots: Vec<NotedSlot>,
-    ghost cnodes: { AreWindows owner.placed.now.image.now (reached owner.placed.now.image.now owner.thread.now) windows } by { Prim.hlevel (props, AreWindows-prop) },
+    ghost cnodes: { AreWindows owner.placed.now.image.now
+        (reached owner.placed.now.image.now owner.thread.now) windows } by { Prim.hlevel (props, AreWindows-prop) },
     ghost listed: { slots.items ≡ image_slots owner.placed.now.image.now owner.thread.now },
     ghost sorted: { Rise slots.items },
 }

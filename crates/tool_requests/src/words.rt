@@ -9,14 +9,16 @@ pub const VERSION: &str =
 
 /// What is said after all words.
 const STATUSES: &str =
-    "`-` is standard input, or where a text or an image is written standard output.\n\nExit status: 0 done; 1 refused, with the reason; 2 wrong words; 3 a file, the output or memory.";
+    "`-` is standard input, or where a text or an image is written standard output.\n\nExit status: 0 done; 1 refused, with the reason; 2 wrong words; \
+     3 a file, the output or memory.";
 
 /// What is said of a list of events.
 const EVENTS: &str =
-    "lines `step [N]`, `tick`, `irq LINE`, `write PAGE INDEX WORD` and `read PAGE INDEX`, by names or numbers; of `run` each line of standard input is answered before the next is read";
+    "lines `step [N]`, `tick`, `irq LINE`, `write PAGE INDEX WORD` and `read PAGE INDEX`, by names or numbers; \
+     of `run` each line of standard input is answered before the next is read";
 
-/// What follows a word: `NAME` is a file, `?NAME` one that may be left out, `?NAME .. NAME` and `?NAME ..` any number of words, `--NAME` a word that may be there,
-/// `--NAME N` such a word with a number, and `-D WORD` and `--NAME WORD ..` ones that may be there again and again.
+/// What follows a word: `NAME` is a file, `?NAME` one that may be left out, `?NAME .. NAME` and `?NAME ..` any number of words, `--NAME` a
+/// word that may be there, `--NAME N` such a word with a number, and `-D WORD` and `--NAME WORD ..` ones that may be there again and again.
 #[derive(Clone, Copy)]
 struct Argument<'a> {
     form: &'a str,

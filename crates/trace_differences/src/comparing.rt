@@ -153,8 +153,8 @@ fn reported_byte(
 /// expected, and what came, with the name of the thread and the line of the text of the image. Lines that are missing at the end, or
 /// superfluous, are differences; `None` says that there is none. After a `#` a line of what is expected is a comment. If the first
 /// line that says something is `byte XX`, or bytes of two hexadecimal digits each, only the bytes that are put are compared, and all
-/// lines are of these two forms; else all events are compared, by lines as a trace has them, with the names of the text or without. Two files take time in proportion to
-/// their lengths, and memory in proportion to what is expected.
+/// lines are of these two forms; else all events are compared, by lines as a trace has them, with the names of the text or without. Two
+/// files take time in proportion to their lengths, and memory in proportion to what is expected.
 ///
 /// # Errors
 ///

@@ -69,7 +69,8 @@ pub(crate) fn with_message(bounds: &Bounds, badge: Range) -> Bounds
 /// Registers after a message of which this is promised.
 #[tactic(auto, unfolding(model::specs::Kernel::Messages::word_registers))]
 fn with_promised_words(bounds: &Bounds, promise: &MessagePromise<'_>) -> Bounds
-    ensures { result ≡ with_each (with_range (with_range bounds.now a0 (range promise.now.header.badge_low promise.now.header.badge_high)) a1 full) word_registers (range_at promise.now.words) }
+    ensures { result ≡ with_each (with_range (with_range bounds.now a0 (range promise.now.header.badge_low promise.now.header.badge_high)) a1 full)
+        word_registers (range_at promise.now.words) }
 {
     let mut bounds = *bounds;
     bounds.set(Register::A0, promise.badges());
@@ -118,7 +119,8 @@ impl Behind {
     /// A call on a capability, with or without an answer, that makes tidy changes of the slots or others.
     pub(crate) fn called(bounds: &Bounds, answers: bool, is_tidy: bool) -> Self
         ensures tidy { result.is_tidy ≡ is_tidy }
-        ensures same { (before slots : List NotedSlot) (measure : Measure) → behind_with slots result ≡ behind_call (known_with bounds.now before measure) answers slots }
+        ensures same { (before slots : List NotedSlot) (measure : Measure)
+            → behind_with slots result ≡ behind_call (known_with bounds.now before measure) answers slots }
     {
         if answers {
             Behind {

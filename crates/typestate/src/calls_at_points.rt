@@ -31,7 +31,9 @@ impl HeldSlot<'_, '_, '_, '_> {
         requires fits { IsCallOn self.now.held.now.capability call }
         requires none { made.old.items ≡ [] }
         ensures tidy { IfOk result (IsTidyBehind self.now.own.space.image.now self.now.own.space.thread.now (slots_of self.now.own.slots) made.new.items) }
-        ensures left { IfOk result (λ called. (measure : Measure) → leaves (known_with bounds.now (slots_of self.now.own.slots) measure) answers (held_after self.now.own.space.image.now self.now.own.space.thread.now at (slots_of self.now.own.slots) self.now.held.now call)
+        ensures left { IfOk result (λ called. (measure : Measure)
+            → leaves (known_with bounds.now (slots_of self.now.own.slots) measure) answers
+            (held_after self.now.own.space.image.now self.now.own.space.thread.now at (slots_of self.now.own.slots) self.now.held.now call)
             ≡ left_with (slots_of self.now.own.slots) made.new.items called) }
     {
         match self.invoked(at, call, made)? {
@@ -62,7 +64,9 @@ impl ThreadSlots<'_, '_, '_> {
         requires held { HoldsFull (own_slots self.now.space.windows.now (slots_of self.now.slots)) called.slot called.capability }
         requires none { made.old.items ≡ [] }
         ensures tidy { IfOk result (IsTidyBehind self.now.space.image.now self.now.space.thread.now (slots_of self.now.slots) made.new.items) }
-        ensures left { IfOk result (λ behind. (measure : Measure) → invocation self.now.space.image.now self.now.space.thread.now at (known_with bounds.now (slots_of self.now.slots) measure) (call_on self.now.space.image.now self.now.space.thread.now called.slot called.capability) called.answers
+        ensures left { IfOk result (λ behind. (measure : Measure)
+            → invocation self.now.space.image.now self.now.space.thread.now at (known_with bounds.now (slots_of self.now.slots) measure)
+            (call_on self.now.space.image.now self.now.space.thread.now called.slot called.capability) called.answers
             ≡ left_with (slots_of self.now.slots) made.new.items behind) }
     {
         let call = match message_call(at, bounds, called.capability) {
@@ -91,7 +95,9 @@ impl ThreadSlots<'_, '_, '_> {
     ) -> Result<Result<Behind, Refusal>, AllocError>
         requires none { made.old.items ≡ [] }
         ensures tidy { IfOk result (IsTidyBehind self.now.space.image.now self.now.space.thread.now (slots_of self.now.slots) made.new.items) }
-        ensures left { IfOk result (λ called. (measure : Measure) → after_call self.now.space.image.now self.now.space.thread.now at (known_with bounds.now (slots_of self.now.slots) measure) ≡ left_with (slots_of self.now.slots) made.new.items called) }
+        ensures left { IfOk result (λ called. (measure : Measure)
+            → after_call self.now.space.image.now self.now.space.thread.now at (known_with bounds.now (slots_of self.now.slots) measure)
+            ≡ left_with (slots_of self.now.slots) made.new.items called) }
     {
         match self.system_call(at, bounds) {
             Err(refusal) => Ok(Err(refusal)),

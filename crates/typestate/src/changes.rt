@@ -39,7 +39,8 @@ impl Model for Changes {
 
     ghost view = { λ changes. map (unpacked_entry changes.names.slots.entries) changes.packed.entries };
 
-    ghost invariant = { λ changes. AreInverse changes.names.slots.entries changes.names.names.entries × AreLinked changes.packed.entries changes.families.links.keys × LastIsLinked changes.families.links.keys changes.families.last };
+    ghost invariant = { λ changes. AreInverse changes.names.slots.entries changes.names.names.entries
+        × AreLinked changes.packed.entries changes.families.links.keys × LastIsLinked changes.families.links.keys changes.families.last };
 }
 
 /// Changes in the order of their keys. A clause sees their list.

@@ -65,8 +65,10 @@ fn put_copy(
 ) -> Result<SlotChange, Refusal>
     requires valid { IfOk made IsCapability }
     requires made { IfOk made (λ capability. is_empty capability ≡ false) }
-    ensures { (image : Image) (t : Thread) (root : Cap) (name : SlotName) (destination source : ℕ) → StandsApart image t → AreOwn image t (slots_of slots.now) → AreEnds image t (noted_slots image t (slots_of slots.now)) root name destination source ends
-        → allowed_slots image t at (may_travel ends.held) (with_child (noted_slots image t (slots_of slots.now)) destination source made) ≡ left_or_refused (slots_of slots.now) result }
+    ensures { (image : Image) (t : Thread) (root : Cap) (name : SlotName) (destination source : ℕ) → StandsApart image t → AreOwn image t (slots_of slots.now)
+        → AreEnds image t (noted_slots image t (slots_of slots.now)) root name destination source ends
+        → allowed_slots image t at (may_travel ends.held) (with_child (noted_slots image t (slots_of slots.now)) destination source made)
+        ≡ left_or_refused (slots_of slots.now) result }
 {
     let capability = match made {
         Ok(capability) => capability,
@@ -109,7 +111,8 @@ impl OwnRoot<'_, '_, '_> {
     /// The empty slot and the full one that a call names, or the kernel's error.
     fn ends(&self, destination: SlotName, source: SlotName) -> Result<Ends, KError>
         ensures value { let all = noted_slots self.now.own.space.image.now self.now.own.space.thread.now (slots_of self.now.own.slots) in
-            NamesEnds self.now.own.space.image.now self.now.own.space.thread.now all self.now.own.space.root source (ends_of all self.now.root self.now.own.space.root destination source) result }
+            NamesEnds self.now.own.space.image.now self.now.own.space.thread.now all self.now.own.space.root source
+            (ends_of all self.now.root self.now.own.space.root destination source) result }
         ensures valid { IfOk result (λ ends. IsCapability ends.held) }
     {
         let (to, there) = match self.named(destination) {
@@ -137,7 +140,8 @@ impl OwnRoot<'_, '_, '_> {
         source: SlotName,
         rights_word: u32,
     ) -> Result<SlotChange, Refusal>
-        ensures { cnode_after self.now.own.space.image.now self.now.own.space.thread.now at (slots_of self.now.own.slots) self.now.root (calls.Copy destination source rights_word) ≡ left_or_refused (slots_of self.now.own.slots) result }
+        ensures { cnode_after self.now.own.space.image.now self.now.own.space.thread.now at (slots_of self.now.own.slots) self.now.root
+            (calls.Copy destination source rights_word) ≡ left_or_refused (slots_of self.now.own.slots) result }
     {
         let ends = match self.ends(destination, source) {
             Ok(ends) => ends,
@@ -155,7 +159,8 @@ impl OwnRoot<'_, '_, '_> {
         rights_word: u32,
         payload: u32,
     ) -> Result<SlotChange, Refusal>
-        ensures { cnode_after self.now.own.space.image.now self.now.own.space.thread.now at (slots_of self.now.own.slots) self.now.root (calls.Mint destination source rights_word payload) ≡ left_or_refused (slots_of self.now.own.slots) result }
+        ensures { cnode_after self.now.own.space.image.now self.now.own.space.thread.now at (slots_of self.now.own.slots) self.now.root
+            (calls.Mint destination source rights_word payload) ≡ left_or_refused (slots_of self.now.own.slots) result }
     {
         let ends = match self.ends(destination, source) {
             Ok(ends) => ends,
@@ -176,7 +181,8 @@ impl OwnRoot<'_, '_, '_> {
         destination: SlotName,
         source: SlotName,
     ) -> Result<SlotChange, Refusal>
-        ensures { cnode_after self.now.own.space.image.now self.now.own.space.thread.now at (slots_of self.now.own.slots) self.now.root (calls.Move destination source) ≡ left_or_refused (slots_of self.now.own.slots) result }
+        ensures { cnode_after self.now.own.space.image.now self.now.own.space.thread.now at (slots_of self.now.own.slots) self.now.root
+            (calls.Move destination source) ≡ left_or_refused (slots_of self.now.own.slots) result }
     {
         let ends = match self.ends(destination, source) {
             Ok(ends) => ends,
@@ -200,7 +206,8 @@ impl OwnRoot<'_, '_, '_> {
 
     /// Mutate, which is none of a program's calls: the kernel's errors come first.
     fn mutate(&self, at: Point, destination: SlotName, source: SlotName) -> Refusal
-        ensures { (payload : ℕ) → cnode_after self.now.own.space.image.now self.now.own.space.thread.now at (slots_of self.now.own.slots) self.now.root (calls.Mutate destination source payload) ≡ Err result }
+        ensures { (payload : ℕ) → cnode_after self.now.own.space.image.now self.now.own.space.thread.now at (slots_of self.now.own.slots) self.now.root
+            (calls.Mutate destination source payload) ≡ Err result }
     {
         match self.ends(destination, source) {
             Ok(_) => Refusal::CallRefused(at, KError::IllegalOperation),
@@ -210,7 +217,8 @@ impl OwnRoot<'_, '_, '_> {
 
     /// Delete: a program may not lose its pools. Nothing happens to an empty slot.
     fn delete(&self, at: Point, name: SlotName) -> Result<SlotChange, Refusal>
-        ensures { cnode_after self.now.own.space.image.now self.now.own.space.thread.now at (slots_of self.now.own.slots) self.now.root (calls.Delete name) ≡ left_or_refused (slots_of self.now.own.slots) result }
+        ensures { cnode_after self.now.own.space.image.now self.now.own.space.thread.now at (slots_of self.now.own.slots) self.now.root (calls.Delete name)
+            ≡ left_or_refused (slots_of self.now.own.slots) result }
     {
         let (key, held) = match self.named(name) {
             Ok(found) => found,
@@ -227,7 +235,8 @@ impl OwnRoot<'_, '_, '_> {
 
     /// Revoke: what descends from a slot goes.
     fn revoke(&self, at: Point, name: SlotName) -> Result<SlotChange, Refusal>
-        ensures { cnode_after self.now.own.space.image.now self.now.own.space.thread.now at (slots_of self.now.own.slots) self.now.root (calls.Revoke name) ≡ left_or_refused (slots_of self.now.own.slots) result }
+        ensures { cnode_after self.now.own.space.image.now self.now.own.space.thread.now at (slots_of self.now.own.slots) self.now.root (calls.Revoke name)
+            ≡ left_or_refused (slots_of self.now.own.slots) result }
     {
         let (key, _) = match self.named(name) {
             Ok(found) => found,
@@ -239,7 +248,8 @@ impl OwnRoot<'_, '_, '_> {
     /// What a call on the CNode of the root leaves of the slots, or why it is refused: the kernel's error comes first, then
     /// that a pool is lost, and then that a program may not move or copy what its source holds.
     pub(crate) fn cnode_call(&self, at: Point, call: CNodeCall) -> Result<SlotChange, Refusal>
-        ensures { cnode_after self.now.own.space.image.now self.now.own.space.thread.now at (slots_of self.now.own.slots) self.now.root call ≡ left_or_refused (slots_of self.now.own.slots) result }
+        ensures { cnode_after self.now.own.space.image.now self.now.own.space.thread.now at (slots_of self.now.own.slots) self.now.root call
+            ≡ left_or_refused (slots_of self.now.own.slots) result }
     {
         match call {
             CNodeCall::Copy {

@@ -83,7 +83,8 @@ impl Families {
 
     /// Adds the link to the block of a slot, if it has a parent. Memory may be refused.
     pub(crate) fn add(&mut self, change: &PackedChange, slot: u64) -> Result<(), AllocError>
-        ensures added { IfOk result (λ _. LastIsLinked self.old.links.keys self.old.last → (name : ℕ) → has_name name change.now.parent ≡ true → has_link self.new.links.keys name (slot / 16 * 16) ≡ true) }
+        ensures added { IfOk result (λ _. LastIsLinked self.old.links.keys self.old.last → (name : ℕ) → has_name name change.now.parent ≡ true
+            → has_link self.new.links.keys name (slot / 16 * 16) ≡ true) }
         ensures kept { KeepsLinks self.old.links.keys self.new.links.keys }
         ensures there { LastIsLinked self.old.links.keys self.old.last → LastIsLinked self.new.links.keys self.new.last }
     {

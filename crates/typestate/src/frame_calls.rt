@@ -100,7 +100,8 @@ fn takes(held: Option<NotedSlot>, root: u32, page: u32) -> bool
 impl NotedSlots<'_> {
     /// Whether what the change to the slot of a number leaves maps a page under the root table at an offset.
     fn takes_at(&self, number: u64, root: u32, page: u32) -> bool
-        ensures { result ≡ option_map_or (λ c. option_map_or (λ s. maps_page root page s.capability) (left_by c) false) (found self.now.changes.now number) false }
+        ensures { result ≡ option_map_or (λ c. option_map_or (λ s. maps_page root page s.capability) (left_by c) false)
+            (found self.now.changes.now number) false }
     {
         match self.changes.numbered(number) {
             Some(change) => takes(left(change), root, page),
@@ -154,7 +155,8 @@ impl ThreadSlots<'_, '_, '_> {
     /// Whether a region of the thread's address space has a page table. No program can map or unmap one.
     fn is_region_taken(&self, region: u32) -> bool
         requires { region < 2 ^ 10 }
-        ensures { result ≡ is_region_taken (noted_kernel self.now.space.image.now self.now.space.thread.now (slots_of self.now.slots)) self.now.space.table region }
+        ensures { result ≡ is_region_taken (noted_kernel self.now.space.image.now self.now.space.thread.now (slots_of self.now.slots)) self.now.space.table
+            region }
     {
         self.space.lists_region(region)
     }
@@ -171,7 +173,8 @@ impl ThreadSlots<'_, '_, '_> {
 
     /// Whether a slot of this name holds the thread's root table, or the kernel's error: no other one can be there.
     fn names_root(&self, name: SlotName) -> Result<(), KError>
-        ensures value { root_named (noted_slots self.now.space.image.now self.now.space.thread.now (slots_of self.now.slots)) (noted_root self.now.space.image.now self.now.space.thread.now) name ≡ with_root self.now.space.table result }
+        ensures value { root_named (noted_slots self.now.space.image.now self.now.space.thread.now (slots_of self.now.slots))
+            (noted_root self.now.space.image.now self.now.space.thread.now) name ≡ with_root self.now.space.table result }
         ensures placed { IfOk result (λ _. IsPlace self.now.space.table 12) }
     {
         let (_, held) = match self.named(name) {
@@ -247,7 +250,8 @@ impl HeldSlot<'_, '_, '_, '_> {
         rights: u32,
     ) -> Result<SlotChange, Refusal>
         requires { IsCallOn self.now.held.now.capability (OnFrame allowed (MapFrame root address rights)) }
-        ensures { held_after self.now.own.space.image.now self.now.own.space.thread.now at (slots_of self.now.own.slots) self.now.held.now (OnFrame allowed (MapFrame root address rights)) ≡ left_or_refused (slots_of self.now.own.slots) result }
+        ensures { held_after self.now.own.space.image.now self.now.own.space.thread.now at (slots_of self.now.own.slots) self.now.held.now
+            (OnFrame allowed (MapFrame root address rights)) ≡ left_or_refused (slots_of self.now.own.slots) result }
     {
         let held = *self.held;
         let mapping = mapping_of(held.capability);
@@ -273,7 +277,8 @@ impl HeldSlot<'_, '_, '_, '_> {
         call: FrameCall,
     ) -> Result<SlotChange, Refusal>
         requires { IsCallOn self.now.held.now.capability (OnFrame allowed call) }
-        ensures { held_after self.now.own.space.image.now self.now.own.space.thread.now at (slots_of self.now.own.slots) self.now.held.now (OnFrame allowed call) ≡ left_or_refused (slots_of self.now.own.slots) result }
+        ensures { held_after self.now.own.space.image.now self.now.own.space.thread.now at (slots_of self.now.own.slots) self.now.held.now
+            (OnFrame allowed call) ≡ left_or_refused (slots_of self.now.own.slots) result }
     {
         match call {
             FrameCall::MapFrame {

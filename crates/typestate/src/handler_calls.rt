@@ -28,7 +28,8 @@ impl ThreadSlots<'_, '_, '_> {
     /// Why a line gets no notification of this name: the kernel's error comes first. A depth of 255 has the same error.
     fn binds(&self, at: Point, line: u8, name: SlotName) -> Refusal
         requires line { line < 64 }
-        ensures { (held : NotedSlot) → held_after self.now.space.image.now self.now.space.thread.now at (slots_of self.now.slots) held (OnHandler line (SetNotification name)) ≡ Err result }
+        ensures { (held : NotedSlot) → held_after self.now.space.image.now self.now.space.thread.now at (slots_of self.now.slots) held
+            (OnHandler line (SetNotification name)) ≡ Err result }
     {
         let (_, source) = match self.named(name) {
             Ok(found) => found,
@@ -51,7 +52,8 @@ impl ThreadSlots<'_, '_, '_> {
         call: HandlerCall,
     ) -> Result<SlotChange, Refusal>
         requires line { line < 64 }
-        ensures { (held : NotedSlot) → held_after self.now.space.image.now self.now.space.thread.now at (slots_of self.now.slots) held (OnHandler line call) ≡ left_or_refused (slots_of self.now.slots) result }
+        ensures { (held : NotedSlot) → held_after self.now.space.image.now self.now.space.thread.now at (slots_of self.now.slots) held (OnHandler line call)
+            ≡ left_or_refused (slots_of self.now.slots) result }
     {
         match call {
             HandlerCall::Acknowledge => Ok(SlotChange::Nothing),

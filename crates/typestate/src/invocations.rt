@@ -69,7 +69,8 @@ impl HeldSlot<'_, '_, '_, '_> {
         requires fits { IsCallOn self.now.held.now.capability call }
         requires none { made.old.items ≡ [] }
         ensures tidy { IfOk result (IsTidyCall self.now.own.space.image.now self.now.own.space.thread.now (slots_of self.now.own.slots) made.new.items) }
-        ensures made { IfOk result (λ done. held_after self.now.own.space.image.now self.now.own.space.thread.now at (slots_of self.now.own.slots) self.now.held.now call ≡ made_or_refused (slots_of self.now.own.slots) made.new.items done) }
+        ensures made { IfOk result (λ done. held_after self.now.own.space.image.now self.now.own.space.thread.now at
+            (slots_of self.now.own.slots) self.now.held.now call ≡ made_or_refused (slots_of self.now.own.slots) made.new.items done) }
     {
         let held = *self.held;
         match call {

@@ -119,7 +119,8 @@ impl NotedSlots<'_> {
         numbers: &mut BTreeSet<u64>,
         newest: &[PackedSlot],
     ) -> Result<Vec<PackedSlot>, AllocError>
-        ensures { IfOk result (λ next. (k : ℕ) → AreBelow k self.now root numbers.old.keys newest.now → AreBelow (k + 1) self.now root numbers.new.keys next.items) }
+        ensures { IfOk result (λ next. (k : ℕ) → AreBelow k self.now root numbers.old.keys newest.now
+            → AreBelow (k + 1) self.now root numbers.new.keys next.items) }
     {
         let children = self.children_of_all(alloc, newest)?;
         note_numbers(numbers, &children)?;

@@ -169,7 +169,8 @@ impl SlotLog {
     /// Memory may be refused.
     pub fn note(&mut self, noted: &RecordRef<'_>) -> Result<Part, AllocError>
         ensures held { IfOk result (Holds self.new) }
-        ensures same { IfOk result (λ part. (slots : List NotedSlot) → Rise slots → replayed slots (part_of self.new part) ≡ changed slots (map entry_slot noted.now.slots)) }
+        ensures same { IfOk result (λ part. (slots : List NotedSlot) → Rise slots
+            → replayed slots (part_of self.new part) ≡ changed slots (map entry_slot noted.now.slots)) }
         ensures others { IfOk result (λ _. KeepsParts self.old self.new) }
     {
         let mut changes = Vec::new(self.alloc);
@@ -186,7 +187,8 @@ impl SlotLog {
     pub fn follow(&mut self, part: Part, made: &[LogEntry]) -> Result<Part, AllocError>
         requires { Holds self.old part }
         ensures held { IfOk result (Holds self.new) }
-        ensures same { IfOk result (λ both. (slots : List NotedSlot) → Rise slots → replayed slots (part_of self.new both) ≡ replayed (replayed slots (part_of self.old part)) made.now) }
+        ensures same { IfOk result (λ both. (slots : List NotedSlot) → Rise slots
+            → replayed slots (part_of self.new both) ≡ replayed (replayed slots (part_of self.old part)) made.now) }
         ensures others { IfOk result (λ _. KeepsParts self.old self.new) }
         ensures refused { IfErr result (λ _. self.new ≡ self.old) }
     {

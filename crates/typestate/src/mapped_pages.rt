@@ -84,7 +84,8 @@ impl MappedPages {
     /// Names the slot of a change no longer with the page that it mapped before, in whose place another change to it is,
     /// unless that maps the same page.
     pub(crate) fn replace(&mut self, before: PackedSlot, change: PackedSlot)
-        ensures others { (page slot : ℕ) → (slot == number_of before.key) ≡ false → has_link self.old.slots.keys page slot ≡ true → has_link self.new.slots.keys page slot ≡ true }
+        ensures others { (page slot : ℕ) → (slot == number_of before.key) ≡ false → has_link self.old.slots.keys page slot ≡ true
+            → has_link self.new.slots.keys page slot ≡ true }
         ensures own { HasPage self.old.slots.keys change → HasPage self.new.slots.keys change }
     {
         let Some(page) = page_left(before) else {

@@ -61,7 +61,8 @@ pub(crate) fn word_register(index: usize) -> Register
 /// The values of the registers of so many words, each of which has to have one.
 fn known_words(at: Point, bounds: &Bounds, count: usize) -> Result<[u32; 8], Refusal>
     requires { count ≤ 8 }
-    ensures words { (slots : List NotedSlot) (measure : Measure) → all_known at (known_with bounds.now slots measure) (take count word_registers) ≡ are_words count result }
+    ensures words { (slots : List NotedSlot) (measure : Measure)
+        → all_known at (known_with bounds.now slots measure) (take count word_registers) ≡ are_words count result }
     ensures long { IfOk result (λ words. length words ≡ 8) }
 {
     let mut words = [0; 8];
@@ -82,7 +83,8 @@ fn known_words(at: Point, bounds: &Bounds, count: usize) -> Result<[u32; 8], Ref
 /// What is not known of the message, or the kernel's error, as a refusal of the image at this point.
 pub fn message_call(at: Point, bounds: &Bounds, capability: Cap) -> Result<Invocation, Refusal>
     ensures value { (image : Image) (t : Thread) (slots : List NotedSlot) (measure : Measure) (call : Call) (answers : Bool) → call.capability ≡ capability
-        → invocation image t at (known_with bounds.now slots measure) call answers ≡ called_with image t at (known_with bounds.now slots measure) call answers result }
+        → invocation image t at (known_with bounds.now slots measure) call answers
+        ≡ called_with image t at (known_with bounds.now slots measure) call answers result }
     ensures fits { IfOk result (IsCallOn capability) }
 {
     let info = match known(at, bounds, Register::A1) {

@@ -29,7 +29,8 @@ fn renamed(map: &BTreeMap<u64, u64>, number: u64) -> u64
 /// Notes that a number stands for itself, if none is noted for it. Memory may be refused.
 fn hold(map: &mut BTreeMap<u64, u64>, number: u64) -> Result<(), AllocError>
     ensures same { (n : ℕ) → renamed map.new.entries n ≡ renamed map.old.entries n }
-    ensures kept { (n : ℕ) → is_some (lookup (λ k. is_eq (nat_cmp n k)) map.old.entries) ≡ true → is_some (lookup (λ k. is_eq (nat_cmp n k)) map.new.entries) ≡ true }
+    ensures kept { (n : ℕ) → is_some (lookup (λ k. is_eq (nat_cmp n k)) map.old.entries) ≡ true
+        → is_some (lookup (λ k. is_eq (nat_cmp n k)) map.new.entries) ≡ true }
     ensures held { IfOk result (λ _. is_some (lookup (λ k. is_eq (nat_cmp number k)) map.new.entries) ≡ true) }
 {
     match map.get(&number) {
@@ -45,7 +46,8 @@ fn hold(map: &mut BTreeMap<u64, u64>, number: u64) -> Result<(), AllocError>
 fn set(map: &mut BTreeMap<u64, u64>, number: u64, other: u64)
     requires held { is_some (lookup (λ k. is_eq (nat_cmp number k)) map.old.entries) ≡ true }
     ensures set { (n : ℕ) → renamed map.new.entries n ≡ (if number == n then other else renamed map.old.entries n) }
-    ensures kept { (n : ℕ) → is_some (lookup (λ k. is_eq (nat_cmp n k)) map.old.entries) ≡ true → is_some (lookup (λ k. is_eq (nat_cmp n k)) map.new.entries) ≡ true }
+    ensures kept { (n : ℕ) → is_some (lookup (λ k. is_eq (nat_cmp n k)) map.old.entries) ≡ true
+        → is_some (lookup (λ k. is_eq (nat_cmp n k)) map.new.entries) ≡ true }
 {
     match map.insert(number, other) {
         Ok(_) => (),

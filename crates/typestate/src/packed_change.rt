@@ -24,7 +24,8 @@ impl Model for Name {
 
     ghost inverse = { λ number. record { high = number / 4294967296; low = number % 4294967296 } };
 
-    ghost inverse_ok = { λ name small. let high : (name.high * 4294967296 + name.low) / 4294967296 ≡ name.high = omega (arith, small) in let low : (name.high * 4294967296 + name.low) % 4294967296 ≡ name.low = omega (arith, small) in λ i. record { high = high i; low = low i } };
+    ghost inverse_ok = { λ name small. let high : (name.high * 4294967296 + name.low) / 4294967296 ≡ name.high = omega (arith, small) in
+        let low : (name.high * 4294967296 + name.low) % 4294967296 ≡ name.low = omega (arith, small) in λ i. record { high = high i; low = low i } };
 }
 
 impl Name {

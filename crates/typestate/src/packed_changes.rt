@@ -34,7 +34,8 @@ impl Names {
     /// The name of what a slot was derived from.
     fn parent_name(&self, parent: Option<SlotKey>) -> Option<Name>
         ensures name { result ≡ option_map (λ p. renamed self.now.names.entries (number_of p)) parent }
-        ensures back { AreInverse self.now.slots.entries self.now.names.entries → option_map (λ name. numbered_key (renamed self.now.slots.entries name)) result ≡ parent }
+        ensures back { AreInverse self.now.slots.entries self.now.names.entries
+            → option_map (λ name. numbered_key (renamed self.now.slots.entries name)) result ≡ parent }
     {
         match parent {
             Some(key) => {

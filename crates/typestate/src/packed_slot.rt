@@ -33,7 +33,12 @@ impl Model for PackedSlot {
 
     ghost invariant = { λ slot. words_of (cap_of slot.head slot.word) ≡ slot.head ∷ slot.word ∷ [] };
 
-    ghost inverse = { λ slot. record { head = get_or (words_of slot.capability) 0 0; word = get_or (words_of slot.capability) 1 0; key = slot.key; parent = slot.parent } };
+    ghost inverse = { λ slot. record {
+      head = get_or (words_of slot.capability) 0 0;
+      word = get_or (words_of slot.capability) 1 0;
+      key = slot.key;
+      parent = slot.parent;
+    } };
 
     ghost inverse_ok = { λ slot spelled i. record { head = get_or (spelled i) 0 0; word = get_or (spelled i) 1 0; key = slot.key; parent = slot.parent } };
 }

@@ -1,7 +1,8 @@
 //! Messages and signals: what each asks of the capability, and what is known after it.
 
 ghost use Rattle.std.specs.Prelude.{◌≡◌, List};
-ghost use Rattle.model.specs.Acceptance.CallRules.{after_message, may_send, promise_received, promise_rule, receive_rule, sends_message, sends_signal, with_received};
+ghost use Rattle.model.specs.Acceptance.CallRules.{after_message, may_send, promise_received, promise_rule};
+ghost use Rattle.model.specs.Acceptance.CallRules.{receive_rule, sends_message, sends_signal, with_received};
 ghost use Rattle.model.specs.Acceptance.Measures.{Measure};
 ghost use Rattle.model.specs.Acceptance.NotedStates.{NotedSlot};
 ghost use Rattle.model.specs.Acceptance.Promises.{keep_words, keeps_promise, keeps_word, promise_at};
@@ -37,7 +38,8 @@ pub(crate) fn receive_rule(
     is_wait: bool,
     capability: Cap,
 ) -> Result<Behind, Refusal>
-    ensures { (slots : List NotedSlot) (measure : Measure) → told slots result ≡ receive_rule space.now.image.now at (known_with bounds.now slots measure) is_wait capability }
+    ensures { (slots : List NotedSlot) (measure : Measure)
+        → told slots result ≡ receive_rule space.now.image.now at (known_with bounds.now slots measure) is_wait capability }
 {
     match capability {
         Cap::Endpoint { offset, rights, .. } if rights.may_read() => Ok(Behind {
@@ -101,7 +103,8 @@ fn promise_rule(
     endpoint: u32,
     badge: u32,
 ) -> Result<(), Refusal>
-    ensures { (slots : List NotedSlot) (measure : Measure) → result ≡ promise_rule at (known_with bounds.now slots measure) badge (promise_at space.now.image.now endpoint) }
+    ensures { (slots : List NotedSlot) (measure : Measure)
+        → result ≡ promise_rule at (known_with bounds.now slots measure) badge (promise_at space.now.image.now endpoint) }
 {
     let Some(promise) = space.promise_at(endpoint) else {
         return Ok(());
@@ -160,7 +163,9 @@ pub(crate) fn sends_message(
     kind: SendCall,
     endpoint: EndpointCap,
 ) -> Result<Behind, Refusal>
-    ensures { (slots : List NotedSlot) (measure : Measure) → told slots result ≡ sends_message at (known_with bounds.now slots measure) kind endpoint.rights endpoint.badge (promise_at space.now.image.now endpoint.offset) }
+    ensures { (slots : List NotedSlot) (measure : Measure)
+        → told slots result ≡ sends_message at (known_with bounds.now slots measure) kind endpoint.rights endpoint.badge
+        (promise_at space.now.image.now endpoint.offset) }
 {
     if !may_send(kind, endpoint.rights) {
         return Err(Refusal::CapNotThere(at));

@@ -91,7 +91,8 @@ impl NewObjects {
 
     /// Appends the slots with the first capabilities to all of them. Memory may be refused.
     fn note(&self, made: &mut Vec<NotedSlot>) -> Result<(), AllocError>
-        ensures { IfOk result (λ _. made.new.items ≡ made.old.items ++ slots_made self.now.slots.first self.now.pool (new_type self.now.kind) self.now.offset self.now.slots.count) }
+        ensures { IfOk result (λ _. made.new.items
+            ≡ made.old.items ++ slots_made self.now.slots.first self.now.pool (new_type self.now.kind) self.now.offset self.now.slots.count) }
     {
         made.reserve(self.slots.count as usize)?;
         for i in 0..self.slots.count {
@@ -156,7 +157,9 @@ impl OwnRoot<'_, '_, '_> {
 impl ThreadSlots<'_, '_, '_> {
     /// The CNode that a call names for the new capabilities: depth 0 names the root of the thread's capability space.
     fn node(&self, name: SlotName) -> Result<Window, KError>
-        ensures { NamesNode self.now.space.image.now self.now.space.thread.now (node (noted_slots self.now.space.image.now self.now.space.thread.now (slots_of self.now.slots)) (noted_root self.now.space.image.now self.now.space.thread.now) name) result }
+        ensures { NamesNode self.now.space.image.now self.now.space.thread.now
+            (node (noted_slots self.now.space.image.now self.now.space.thread.now (slots_of self.now.slots))
+            (noted_root self.now.space.image.now self.now.space.thread.now) name) result }
     {
         if name.depth == 0 {
             let root = OwnRoot {
@@ -188,7 +191,8 @@ impl Pool<'_, '_, '_, '_> {
     ) -> Result<(u32, u32), KError>
         requires mine { IsOwnWindow self.now.own.space.image.now self.now.own.space.thread.now window }
         requires bits { bits ≤ 24 }
-        ensures { result ≡ room_in self.now.own.space.image.now self.now.own.space.thread.now (slots_of self.now.own.slots) self.now.held.now.key self.now.memory window bits index count }
+        ensures { result ≡ room_in self.now.own.space.image.now self.now.own.space.thread.now
+            (slots_of self.now.own.slots) self.now.held.now.key self.now.memory window bits index count }
     {
         if !window.fits(index, count) {
             return Err(KError::RangeError);
@@ -215,7 +219,8 @@ impl Pool<'_, '_, '_, '_> {
 
     /// The checks of Retype, in the kernel's order.
     fn new_place(&self, call: RetypeCall) -> Result<NewPlace, KError>
-        ensures { PlaceAnswer self.now.own.space.image.now self.now.own.space.thread.now (slots_of self.now.own.slots) self.now.held.now.key self.now.memory call result }
+        ensures { PlaceAnswer self.now.own.space.image.now self.now.own.space.thread.now
+            (slots_of self.now.own.slots) self.now.held.now.key self.now.memory call result }
     {
         let kind = match asked_type(call.kind, call.size) {
             Ok(kind) => kind,
@@ -248,8 +253,11 @@ impl Pool<'_, '_, '_, '_> {
         made: &mut Vec<NotedSlot>,
     ) -> Result<Result<bool, Refusal>, AllocError>
         requires none { made.old.items ≡ [] }
-        ensures tidy { IfOk result (IsTidyCall self.now.own.space.image.now self.now.own.space.thread.now (slots_of self.now.own.slots) (map (λ s. Sets s) made.new.items)) }
-        ensures made { IfOk result (λ done. held_after self.now.own.space.image.now self.now.own.space.thread.now at (slots_of self.now.own.slots) self.now.held.now (OnUntyped self.now.memory call) ≡ made_or_refused (slots_of self.now.own.slots) (map (λ s. Sets s) made.new.items) done) }
+        ensures tidy { IfOk result (IsTidyCall self.now.own.space.image.now self.now.own.space.thread.now (slots_of self.now.own.slots)
+            (map (λ s. Sets s) made.new.items)) }
+        ensures made { IfOk result (λ done. held_after self.now.own.space.image.now self.now.own.space.thread.now at
+            (slots_of self.now.own.slots) self.now.held.now (OnUntyped self.now.memory call)
+            ≡ made_or_refused (slots_of self.now.own.slots) (map (λ s. Sets s) made.new.items) done) }
     {
         tidy_puts_leave_no_stray_slot();
         let new = match self.new_place(call) {
@@ -293,7 +301,9 @@ impl Pool<'_, '_, '_, '_> {
     ) -> Result<Result<bool, Refusal>, AllocError>
         requires none { made.old.items ≡ [] }
         ensures tidy { IfOk result (IsTidyCall self.now.own.space.image.now self.now.own.space.thread.now (slots_of self.now.own.slots) made.new.items) }
-        ensures made { IfOk result (λ done. held_after self.now.own.space.image.now self.now.own.space.thread.now at (slots_of self.now.own.slots) self.now.held.now (OnUntyped self.now.memory call) ≡ made_or_refused (slots_of self.now.own.slots) made.new.items done) }
+        ensures made { IfOk result (λ done. held_after self.now.own.space.image.now self.now.own.space.thread.now at
+            (slots_of self.now.own.slots) self.now.held.now (OnUntyped self.now.memory call)
+            ≡ made_or_refused (slots_of self.now.own.slots) made.new.items done) }
     {
         let mut objects = Vec::new(*made.allocator());
         let is_tidy = self.note_objects(at, call, &mut objects)?;

@@ -106,7 +106,8 @@ impl<'a> PlacedPromises<'a> {
     ///
     /// Memory may be refused.
     pub fn put(&mut self, offset: u32, promise: MessagePromise<'a>) -> Result<(), AllocError>
-        ensures { IfOk result (λ _. (other : ℕ) → placed_at self.new other ≡ option_or (placed_at self.old other) (if offset == other then Some promise.entry else None)) }
+        ensures { IfOk result (λ _. (other : ℕ) → placed_at self.new other
+            ≡ option_or (placed_at self.old other) (if offset == other then Some promise.entry else None)) }
     {
         match self.placed.get(&offset) {
             Some(_) => Ok(()),

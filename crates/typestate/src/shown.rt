@@ -69,7 +69,8 @@ impl ShownChanges {
     fn make(&mut self, entry: LogEntry) -> Result<(), AllocError>
         requires { Rise self.old }
         ensures rising { IfOk result (λ _. Rise self.new) }
-        ensures same { IfOk result (λ _. (slots : List NotedSlot) → Rise slots → AreUnlinked slots → changed slots self.new ≡ with_entry (changed slots self.old) entry) }
+        ensures same { IfOk result (λ _. (slots : List NotedSlot) → Rise slots → AreUnlinked slots
+            → changed slots self.new ≡ with_entry (changed slots self.old) entry) }
     {
         match entry {
             LogEntry::Sets(change) => {
@@ -87,7 +88,8 @@ impl ShownChanges {
     pub(crate) fn make_all(&mut self, made: &[LogEntry]) -> Result<(), AllocError>
         requires { Rise self.old }
         ensures rising { IfOk result (λ _. Rise self.new) }
-        ensures same { IfOk result (λ _. (slots : List NotedSlot) → Rise slots → AreUnlinked slots → changed slots self.new ≡ replayed (changed slots self.old) made.now) }
+        ensures same { IfOk result (λ _. (slots : List NotedSlot) → Rise slots → AreUnlinked slots
+            → changed slots self.new ≡ replayed (changed slots self.old) made.now) }
     {
         for entry in made {
             self.make(*entry)?;

@@ -61,20 +61,25 @@ pub enum SlotChange {
 
 /// What is known after a call is what is known of the slots.
 pub fn slots_decide_calls()
-    ensures { (image : Image) (t : Thread) (at : Point) (state : PointState) (call : Call) (c : Invocation) (answers : Bool) → invoked image t at state call c answers ≡ leaves state answers (slots_after image t at state.slots call c) }
+    ensures { (image : Image) (t : Thread) (at : Point) (state : PointState) (call : Call) (c : Invocation) (answers : Bool)
+        → invoked image t at state call c answers ≡ leaves state answers (slots_after image t at state.slots call c) }
 {}
 
 /// The same of a call on a CNode, wherever its capability is.
 pub fn slots_decide_cnode_calls()
-    ensures { (image : Image) (t : Thread) (at : Point) (state : PointState) (slot : ℕ) (capability : Cap) (call : CNodeCall) (answers : Bool) → invoked image t at state (call_on image t slot capability) (OnCNode call) answers ≡ leaves state answers (cnode_after image t at state.slots capability call) }
+    ensures { (image : Image) (t : Thread) (at : Point) (state : PointState) (slot : ℕ) (capability : Cap) (call : CNodeCall) (answers : Bool)
+        → invoked image t at state (call_on image t slot capability) (OnCNode call) answers
+        ≡ leaves state answers (cnode_after image t at state.slots capability call) }
 {}
 
 /// What a call makes of the slots of a thread is made by the changes that it appends.
 pub fn changes_make_slots()
-    ensures { (image : Image) (t : Thread) (slots : NotedSlots) (change : SlotChange) → AreOwn image t (slots_of slots) → replayed (slots_of slots) (changes_of slots change) ≡ slots_left (slots_of slots) change }
+    ensures { (image : Image) (t : Thread) (slots : NotedSlots) (change : SlotChange) → AreOwn image t (slots_of slots)
+        → replayed (slots_of slots) (changes_of slots change) ≡ slots_left (slots_of slots) change }
 {}
 
 /// Slots of a thread as the kernel's, and back.
 pub fn slots_come_back()
-    ensures { (image : Image) (t : Thread) (slots : List NotedSlot) → StandsApart image t → Rise slots → AreOwn image t slots → noted_after image t (noted_slots image t slots) ≡ slots }
+    ensures { (image : Image) (t : Thread) (slots : List NotedSlot) → StandsApart image t → Rise slots → AreOwn image t slots
+        → noted_after image t (noted_slots image t slots) ≡ slots }
 {}

@@ -19,18 +19,21 @@ pub fn records_note_changes()
 
 /// Where no slot is one that the thread may not have, nothing leads outside of its CNodes.
 pub fn no_stray_slot_leads_outside()
-    ensures { (image : Image) (t : Thread) (point : ℕ) (state : PointState) → has_stray_slots image t point state ≡ false → NothingLeadsOutside image t state.slots }
+    ensures { (image : Image) (t : Thread) (point : ℕ) (state : PointState) → has_stray_slots image t point state ≡ false
+        → NothingLeadsOutside image t state.slots }
 {}
 
 /// Where no slot is one that the thread may not have, there is none after a tidy change.
 pub fn tidy_changes_leave_no_stray_slot()
-    ensures { (space : Space) (slots : List NotedSlot) (change : SlotChange) → Rise slots → NoneStray space.image.now space.thread.now slots → is_tidy space slots change ≡ true
+    ensures { (space : Space) (slots : List NotedSlot) (change : SlotChange) → Rise slots → NoneStray space.image.now space.thread.now slots
+        → is_tidy space slots change ≡ true
         → NoneStray space.image.now space.thread.now (slots_left slots change) }
 {}
 
 /// Where no slot is one that the thread may not have, there is none after tidy slots that are put one after another.
 pub fn tidy_puts_leave_no_stray_slot()
-    ensures { (space : Space) (slots made : List NotedSlot) → Rise slots → NoneStray space.image.now space.thread.now slots → list_all (is_tidy_put space slots) made ≡ true
+    ensures { (space : Space) (slots made : List NotedSlot) → Rise slots → NoneStray space.image.now space.thread.now slots
+        → list_all (is_tidy_put space slots) made ≡ true
         → NoneStray space.image.now space.thread.now (changed slots made) }
 {}
 

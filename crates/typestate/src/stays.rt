@@ -117,14 +117,16 @@ impl Removal<'_, '_> {
 
     /// Whether what a change leaves was derived from the slot of a key, stays, and is then still a child of it.
     fn child_stays(&self, key: SlotKey, change: &PackedSlot) -> bool
-        ensures { result ≡ (has_parent key (left_by change.now) && option_map_or (kept_child (slots_of self.now.slots) self.now.which key) (left_by change.now) false) }
+        ensures { result ≡ (has_parent key (left_by change.now)
+            && option_map_or (kept_child (slots_of self.now.slots) self.now.which key) (left_by change.now) false) }
     {
         leaves_child(key, change) && self.stays_below(left(change.unpacked()), key)
     }
 
     /// Whether one of the slots of a block that were derived from the slot of this key stays, and is then still a child of it.
     fn child_in_stays(&self, key: SlotKey, block: u64) -> bool
-        ensures { result ≡ list_any (λ c. option_map_or (kept_child (slots_of self.now.slots) self.now.which key) (left_by c) false) (children_in self.now.slots.changes.now key block) }
+        ensures { result ≡ list_any (λ c. option_map_or (kept_child (slots_of self.now.slots) self.now.which key) (left_by c) false)
+            (children_in self.now.slots.changes.now key block) }
     {
         for change in self.slots.changes.block(block) {
             if self.child_stays(key, &change) {
@@ -136,7 +138,8 @@ impl Removal<'_, '_> {
 
     /// Whether one of the slots that were derived from the slot of this key stays, and is then still a child of it.
     fn one_child_stays(&self, key: SlotKey) -> bool
-        ensures { result ≡ list_any (λ c. option_map_or (kept_child (slots_of self.now.slots) self.now.which key) (left_by c) false) (children_of self.now.slots.changes.now key) }
+        ensures { result ≡ list_any (λ c. option_map_or (kept_child (slots_of self.now.slots) self.now.which key) (left_by c) false)
+            (children_of self.now.slots.changes.now key) }
     {
         for link in self.slots.changes.links(key) {
             if self.child_in_stays(key, link.1) {
@@ -233,7 +236,8 @@ impl Staying<'_, '_, '_> {
 
     /// The capability that is left in the slot: a pool that loses its last child is unused again.
     fn cap_left(&self) -> Cap
-        ensures value { result ≡ cap_left (gone_by self.now.removal.now) (slots_of self.now.removal.now.slots) self.now.slot.now.key self.now.slot.now.capability }
+        ensures value { result ≡ cap_left (gone_by self.now.removal.now)
+            (slots_of self.now.removal.now.slots) self.now.slot.now.key self.now.slot.now.capability }
         ensures valid { IsCapability result }
     {
         let slot = self.slot;
@@ -293,14 +297,17 @@ impl Removal<'_, '_> {
 
     /// Appends what becomes of the slot of a key where some go.
     fn note_removal_at(&self, key: SlotKey, made: &mut Vec<PackedSlot>) -> Result<(), AllocError>
-        ensures { IfOk result (λ _. made.new.items ≡ made.old.items ++ told_at (removal_change (gone_by self.now) (slots_of self.now.slots)) (slots_of self.now.slots) key) }
+        ensures { IfOk result (λ _. made.new.items
+            ≡ made.old.items ++ told_at (removal_change (gone_by self.now) (slots_of self.now.slots)) (slots_of self.now.slots) key) }
     {
         self.note_held(self.slots.at(key), made)
     }
 
     /// Appends what becomes of the one slot that goes, and of what it was derived from.
     fn note_one(&self, gone: SlotKey, made: &mut Vec<PackedSlot>) -> Result<(), AllocError>
-        ensures { IfOk result (λ _. made.new.items ≡ made.old.items ++ flat_map (told_at (removal_change (gone_by self.now) (slots_of self.now.slots)) (slots_of self.now.slots)) (named_by (slots_of self.now.slots) (One gone))) }
+        ensures { IfOk result (λ _. made.new.items
+            ≡ made.old.items ++ flat_map (told_at (removal_change (gone_by self.now) (slots_of self.now.slots)) (slots_of self.now.slots))
+            (named_by (slots_of self.now.slots) (One gone))) }
     {
         self.note_removal_at(gone, made)?;
         match self.slots.parent(gone) {
@@ -312,7 +319,9 @@ impl Removal<'_, '_> {
     /// Appends what becomes of the slots that are named where some go: the one that goes and what it was derived from, or the one
     /// from which all that goes descends.
     fn note_named(&self, made: &mut Vec<PackedSlot>) -> Result<(), AllocError>
-        ensures { IfOk result (λ _. made.new.items ≡ made.old.items ++ flat_map (told_at (removal_change (gone_by self.now) (slots_of self.now.slots)) (slots_of self.now.slots)) (named_by (slots_of self.now.slots) self.now.which)) }
+        ensures { IfOk result (λ _. made.new.items
+            ≡ made.old.items ++ flat_map (told_at (removal_change (gone_by self.now) (slots_of self.now.slots)) (slots_of self.now.slots))
+            (named_by (slots_of self.now.slots) self.now.which)) }
     {
         match self.which {
             Removed::One(gone) => self.note_one(gone, made),
@@ -322,7 +331,8 @@ impl Removal<'_, '_> {
 
     /// Appends what becomes of what was derived from a slot that goes or is named.
     fn note_removals(&self, made: &mut Vec<PackedSlot>) -> Result<(), AllocError>
-        ensures { IfOk result (λ _. made.new.items ≡ made.old.items ++ flat_map (told_of (removal_change (gone_by self.now) (slots_of self.now.slots))) self.now.touched.now) }
+        ensures { IfOk result (λ _. made.new.items
+            ≡ made.old.items ++ flat_map (told_of (removal_change (gone_by self.now) (slots_of self.now.slots))) self.now.touched.now) }
     {
         for change in self.touched {
             let held = left(change.unpacked());
@@ -343,7 +353,8 @@ impl Removal<'_, '_> {
 
     /// Appends what becomes of what was derived from a slot that goes or is named: where all of it goes, nothing else is asked.
     fn note_touched(&self, made: &mut Vec<PackedSlot>) -> Result<(), AllocError>
-        ensures { IfOk result (λ _. made.new.items ≡ made.old.items ++ flat_map (told_of (removal_change (gone_by self.now) (slots_of self.now.slots))) self.now.touched.now) }
+        ensures { IfOk result (λ _. made.new.items
+            ≡ made.old.items ++ flat_map (told_of (removal_change (gone_by self.now) (slots_of self.now.slots))) self.now.touched.now) }
     {
         if self.is_all {
             self.note_emptied(made)

@@ -135,7 +135,8 @@ impl ToldSlots<'_, '_, '_> {
     /// Whether a slot that the image lists is one that the thread may not have. Where none is by itself, none is beside others
     /// either: what was said of them once is not asked again.
     fn keeps_stray(&self) -> bool
-        ensures { (result || list_any (λ k. is_stray_at self.now.space (slots_of self.now.slots) k.key) self.now.slots.changes.now) ≡ list_any (is_stray_in self.now.space (slots_of self.now.slots)) (slots_of self.now.slots) }
+        ensures { (result || list_any (λ k. is_stray_at self.now.space (slots_of self.now.slots) k.key) self.now.slots.changes.now)
+            ≡ list_any (is_stray_in self.now.space (slots_of self.now.slots)) (slots_of self.now.slots) }
     {
         if self.lists_stray {
             self.space.one_stray(&self.slots, self.slots.image)
@@ -156,7 +157,8 @@ impl ToldSlots<'_, '_, '_> {
     /// Whether some noted slot of a point is one that the thread may not have, or the point's record, if it has one, notes a
     /// slot outside of the thread's CNodes.
     pub fn has_stray_slots(&self, noted: Option<&RecordRef<'_>>) -> bool
-        ensures { (point : ℕ) (state : PointState) → state.slots ≡ slots_of self.now.slots → record_of self.now.space.thread.now point ≡ option_map (λ r. r.now) noted.entry
+        ensures { (point : ℕ) (state : PointState) → state.slots ≡ slots_of self.now.slots
+            → record_of self.now.space.thread.now point ≡ option_map (λ r. r.now) noted.entry
             → result ≡ has_stray_slots self.now.space.image.now self.now.space.thread.now point state }
     {
         if !self.is_clean && self.has_stray() {

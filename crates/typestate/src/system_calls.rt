@@ -94,7 +94,9 @@ fn sends(
     slot: Slot,
     capability: Cap,
 ) -> Result<SystemCall, Refusal>
-    ensures value { (t : Thread) (slots : List NotedSlot) (measure : Measure) → send_rule space.now.image.now t at (known_with bounds.now slots measure) kind slot capability ≡ goes_on space.now.image.now t at (known_with bounds.now slots measure) result }
+    ensures value { (t : Thread) (slots : List NotedSlot) (measure : Measure)
+        → send_rule space.now.image.now t at (known_with bounds.now slots measure) kind slot capability
+        ≡ goes_on space.now.image.now t at (known_with bounds.now slots measure) result }
     ensures named { CalledOf (λ called held. (called ≡ slot) × (held ≡ capability)) result }
 {
     let left = match capability {
@@ -128,7 +130,9 @@ fn sends(
 impl ThreadSlots<'_, '_, '_> {
     /// The slot that a system call names, and the capability in it.
     fn called(&self, at: Point, bounds: &Bounds) -> Result<(Slot, Cap), Refusal>
-        ensures value { (measure : Measure) → result ≡ found_call at (known_with bounds.now (slots_of self.now.slots) measure) (own_slots self.now.space.windows.now (slots_of self.now.slots)) self.now.space.root }
+        ensures value { (measure : Measure) → result
+            ≡ found_call at (known_with bounds.now (slots_of self.now.slots) measure)
+            (own_slots self.now.space.windows.now (slots_of self.now.slots)) self.now.space.root }
         ensures held { IfOk result (λ found. HoldsFull (own_slots self.now.space.windows.now (slots_of self.now.slots)) found.0 found.1) }
     {
         let address = match known(at, bounds, Register::A0) {
@@ -152,7 +156,9 @@ impl ThreadSlots<'_, '_, '_> {
     ///
     /// What is not known of the call, or is not allowed, as a refusal of the image at this point.
     pub fn system_call(&self, at: Point, bounds: &Bounds) -> Result<SystemCall, Refusal>
-        ensures value { (measure : Measure) → after_call self.now.space.image.now self.now.space.thread.now at (known_with bounds.now (slots_of self.now.slots) measure) ≡ goes_on self.now.space.image.now self.now.space.thread.now at (known_with bounds.now (slots_of self.now.slots) measure) result }
+        ensures value { (measure : Measure) → after_call self.now.space.image.now self.now.space.thread.now at
+            (known_with bounds.now (slots_of self.now.slots) measure)
+            ≡ goes_on self.now.space.image.now self.now.space.thread.now at (known_with bounds.now (slots_of self.now.slots) measure) result }
         ensures held { CalledOf (HoldsFull (own_slots self.now.space.windows.now (slots_of self.now.slots))) result }
     {
         let number = match known(at, bounds, Register::A7) {
@@ -169,7 +175,9 @@ impl ThreadSlots<'_, '_, '_> {
 
     /// A receive.
     fn receives(&self, at: Point, bounds: &Bounds, is_wait: bool) -> Result<SystemCall, Refusal>
-        ensures value { (measure : Measure) → by_kind self.now.space.image.now self.now.space.thread.now at (known_with bounds.now (slots_of self.now.slots) measure) (Some (Receives is_wait)) ≡ goes_on self.now.space.image.now self.now.space.thread.now at (known_with bounds.now (slots_of self.now.slots) measure) result }
+        ensures value { (measure : Measure) → by_kind self.now.space.image.now self.now.space.thread.now at
+            (known_with bounds.now (slots_of self.now.slots) measure) (Some (Receives is_wait))
+            ≡ goes_on self.now.space.image.now self.now.space.thread.now at (known_with bounds.now (slots_of self.now.slots) measure) result }
         ensures held { CalledOf (HoldsFull (own_slots self.now.space.windows.now (slots_of self.now.slots))) result }
     {
         match self.called(at, bounds) {
@@ -189,7 +197,9 @@ impl ThreadSlots<'_, '_, '_> {
 
     /// A send.
     fn sends(&self, at: Point, bounds: &Bounds, kind: SendCall) -> Result<SystemCall, Refusal>
-        ensures value { (measure : Measure) → by_kind self.now.space.image.now self.now.space.thread.now at (known_with bounds.now (slots_of self.now.slots) measure) (Some (Sends kind)) ≡ goes_on self.now.space.image.now self.now.space.thread.now at (known_with bounds.now (slots_of self.now.slots) measure) result }
+        ensures value { (measure : Measure) → by_kind self.now.space.image.now self.now.space.thread.now at
+            (known_with bounds.now (slots_of self.now.slots) measure) (Some (Sends kind))
+            ≡ goes_on self.now.space.image.now self.now.space.thread.now at (known_with bounds.now (slots_of self.now.slots) measure) result }
         ensures held { CalledOf (HoldsFull (own_slots self.now.space.windows.now (slots_of self.now.slots))) result }
     {
         match self.called(at, bounds) {

@@ -40,8 +40,10 @@ impl<S: WalkStore> UserMemory<'_, S> {
         requires near { place < 2 ^ 24 }
         ensures content { stored (content_under (state_in S.slots S.memory self.old.kernel.now) self.old.root) Word address value
             ≡ Ok (content_under (state_in S.slots S.memory self.new.kernel.now) self.new.root) }
-        ensures rest { beside_of self.new.kernel.now.tables (S.slots self.new.kernel.now.store) (S.memory self.new.kernel.now.store) self.new.root self.new.kernel.ghost_name
-            ≡ beside_of self.old.kernel.now.tables (S.slots self.old.kernel.now.store) (S.memory self.old.kernel.now.store) self.old.root self.old.kernel.ghost_name }
+        ensures rest { beside_of self.new.kernel.now.tables (S.slots self.new.kernel.now.store)
+            (S.memory self.new.kernel.now.store) self.new.root self.new.kernel.ghost_name
+            ≡ beside_of self.old.kernel.now.tables (S.slots self.old.kernel.now.store)
+            (S.memory self.old.kernel.now.store) self.old.root self.old.kernel.ghost_name }
     {
         let bytes = value.to_le_bytes();
         self.set_byte(place, bytes[0]);
@@ -61,8 +63,10 @@ impl<S: WalkStore> UserMemory<'_, S> {
             (λ fault. (stored (content_under (state_in S.slots S.memory self.old.kernel.now) self.old.root) Halfword address value ≡ Err fault)
             × (content_under (state_in S.slots S.memory self.new.kernel.now) self.new.root
             ≡ content_under (state_in S.slots S.memory self.old.kernel.now) self.old.root)) }
-        ensures rest { beside_of self.new.kernel.now.tables (S.slots self.new.kernel.now.store) (S.memory self.new.kernel.now.store) self.new.root self.new.kernel.ghost_name
-            ≡ beside_of self.old.kernel.now.tables (S.slots self.old.kernel.now.store) (S.memory self.old.kernel.now.store) self.old.root self.old.kernel.ghost_name }
+        ensures rest { beside_of self.new.kernel.now.tables (S.slots self.new.kernel.now.store)
+            (S.memory self.new.kernel.now.store) self.new.root self.new.kernel.ghost_name
+            ≡ beside_of self.old.kernel.now.tables (S.slots self.old.kernel.now.store)
+            (S.memory self.old.kernel.now.store) self.old.root self.old.kernel.ghost_name }
     {
         if address % 2 != 0 {
             return self.set_number(address, AccessSize::Halfword, value);

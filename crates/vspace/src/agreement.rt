@@ -4,7 +4,8 @@
 ghost use Rattle.std.specs.Prelude.{◌≡◌, ◌≢◌, ◌+◌, ◌<◌, ◌≤◌, ℕ, List, None, Option, Some};
 ghost use Rattle.model.specs.Capabilities.CapabilityKinds.{unmapped};
 ghost use Rattle.model.specs.Capabilities.CapabilityWords.{IsCapability};
-ghost use Rattle.model.specs.Capabilities.Slots.{IsFull, IsOpen, SameOutside, Slots, capability_at, closed, empty_entry, inserted, opened, recapped, relocated, spliced};
+ghost use Rattle.model.specs.Capabilities.Slots.{IsFull, IsOpen, SameOutside, Slots, capability_at, closed, empty_entry};
+ghost use Rattle.model.specs.Capabilities.Slots.{inserted, opened, recapped, relocated, spliced};
 ghost use Rattle.model.specs.declared.capabilities.Cap.{Cap};
 ghost use Rattle.model.specs.declared.capabilities.Cap.TheVariants.{Empty};
 ghost use Rattle.removal_laws.specs.Steps.{unused};

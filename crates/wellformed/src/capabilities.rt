@@ -59,7 +59,8 @@ fn signals_nothing(image: &ImageRef<'_>, entry: InterruptEntry) -> bool
 
 /// The interrupts, in their order, numbered on after the capabilities.
 fn check_interrupts(image: &ImageRef<'_>) -> Result<(), Refusal>
-    ensures { Answers (first_broken (map (λ i. refuse_if (signals_nothing image.now i.1) (BadCap (image.now.header.capabilities + i.0))) (numbered image.now.interrupts))) result }
+    ensures { Answers (first_broken (map (λ i. refuse_if (signals_nothing image.now i.1) (BadCap (image.now.header.capabilities + i.0)))
+        (numbered image.now.interrupts))) result }
 {
     let header = header_of(image);
     for number in 0..header.interrupts {

@@ -5,7 +5,9 @@ ghost use Rattle.std.specs.List.{list_any};
 ghost use Rattle.model.specs.declared.refusals.Refusal.TheVariants.{BadMapping, OutOfMemory};
 ghost use Rattle.model.specs.Acceptance.Rules.{first_broken, refuse_if};
 ghost use Rattle.model.specs.Acceptance.ThreadRules.{is_member};
-ghost use Rattle.model.specs.Acceptance.WellFormed.{content_rule, executes, fills_nothing, frame_rules, has_writable_code, is_address, is_covered, is_device, is_mapped_before, is_mapped_twice, is_named_otherwise, mapping_rules, misplaces_frame, misplaces_table, promise_rule, promises_nothing};
+ghost use Rattle.model.specs.Acceptance.WellFormed.{content_rule, executes, fills_nothing, frame_rules, has_writable_code, is_address};
+ghost use Rattle.model.specs.Acceptance.WellFormed.{is_covered, is_device, is_mapped_before, is_mapped_twice, is_named_otherwise, mapping_rules};
+ghost use Rattle.model.specs.Acceptance.WellFormed.{misplaces_frame, misplaces_table, promise_rule, promises_nothing};
 ghost use Rattle.model.specs.Images.Described.{numbered};
 ghost use Rattle.wellformed.specs.Answering.{Answers, AreNamed, AreTwice, with_number};
 

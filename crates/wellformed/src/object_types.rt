@@ -1,7 +1,8 @@
 //! What the objects of an image are.
 
 ghost use Rattle.std.specs.Prelude.{◌≡◌, ◌^◌, ◌≤◌, nat_lt, option_map, true};
-ghost use Rattle.model.specs.Acceptance.WellFormed.{has_slot, is_endpoint_type, is_frame_type, is_notification_type, is_root_type, is_table_type, is_thread_type, is_untyped_type, may_have, radix_of, source_type};
+ghost use Rattle.model.specs.Acceptance.WellFormed.{has_slot, is_endpoint_type, is_frame_type, is_notification_type, is_root_type};
+ghost use Rattle.model.specs.Acceptance.WellFormed.{is_table_type, is_thread_type, is_untyped_type, may_have, radix_of, source_type};
 ghost use Rattle.model.specs.Acceptance.ThreadRules.{is_cnode_source};
 ghost use Rattle.model.specs.Capabilities.CapabilityKinds.{is_guard_word};
 ghost use Rattle.model.specs.Images.Image.{size_fits};

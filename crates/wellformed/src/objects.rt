@@ -36,7 +36,8 @@ fn untyped_end(entry: UntypedEntry) -> u64
 fn stands_badly(header: &ImageHeader, entry: UntypedEntry, before: u64) -> bool
     requires header { HeaderFits header.now }
     requires entry { UntypedFits entry }
-    ensures { result ≡ (not (entry.offset % 2 ^ entry.bits == 0) || nat_lt (2 ^ header.now.memory_bits) (untyped_end entry) || nat_lt entry.offset (boot_area_end header.now.boot_radix) || nat_lt entry.offset before) }
+    ensures { result ≡ (not (entry.offset % 2 ^ entry.bits == 0) || nat_lt (2 ^ header.now.memory_bits) (untyped_end entry)
+        || nat_lt entry.offset (boot_area_end header.now.boot_radix) || nat_lt entry.offset before) }
 {
     let offset = u64::from(entry.offset);
     offset % power(entry.bits) != 0
@@ -63,7 +64,8 @@ pub(crate) fn check_untypeds(image: &ImageRef<'_>) -> Result<(), Refusal>
 
 /// The objects, each after the ones before it in its untyped.
 pub(crate) fn check_room(image: &ImageRef<'_>) -> Result<(), Refusal>
-    ensures { Answers (first_broken (map (λ number. refuse_if (has_no_room image.now number) (NoRoom number)) (range_with_len 0 image.now.header.objects))) result }
+    ensures { Answers (first_broken (map (λ number. refuse_if (has_no_room image.now number) (NoRoom number)) (range_with_len 0 image.now.header.objects)))
+        result }
 {
     let mut used = UsedMemory::none();
     for number in 0..header_of(image).objects {

@@ -5,7 +5,8 @@ ghost use Rattle.std.specs.List.{list_all, list_any};
 ghost use Rattle.std.specs.Option.{option_map_or};
 ghost use Rattle.model.specs.declared.refusals.Refusal.TheVariants.{OutOfMemory};
 ghost use Rattle.model.specs.Acceptance.Rules.{first_broken};
-ghost use Rattle.model.specs.Acceptance.ThreadRules.{has_bad_buffer, has_guard, holds_other_root, is_bad, is_bad_buffer, is_code, is_in_use, is_member, program_end, reached, rules_of_thread, shares_cspace, shares_vspace, thread_rules};
+ghost use Rattle.model.specs.Acceptance.ThreadRules.{has_bad_buffer, has_guard, holds_other_root, is_bad, is_bad_buffer, is_code, is_in_use, is_member};
+ghost use Rattle.model.specs.Acceptance.ThreadRules.{program_end, reached, rules_of_thread, shares_cspace, shares_vspace, thread_rules};
 ghost use Rattle.model.specs.Acceptance.WellFormed.{executes, is_root_type, source_type};
 ghost use Rattle.model.specs.Images.Fills.{frame_at, program_pages};
 ghost use Rattle.model.specs.Kernel.AddressSpaces.{address_limit};
@@ -129,7 +130,8 @@ fn holds_other_root(image: &ImageRef<'_>, cnode: u32, root: u32) -> bool
 
 /// Whether one of the CNodes holds another root table than this one.
 fn hold_other_root(image: &ImageRef<'_>, cnodes: &NumberSet, root: u32) -> bool
-    ensures { result ≡ list_any (λ c. is_member c.cnode cnodes.now && is_root_type (source_type image.now c.source) && not (c.source == root)) image.now.capabilities }
+    ensures { result ≡ list_any (λ c. is_member c.cnode cnodes.now && is_root_type (source_type image.now c.source) && not (c.source == root))
+        image.now.capabilities }
 {
     for place in 0..cnodes.len() {
         if holds_other_root(image, cnodes.at(place), root) {
@@ -141,7 +143,8 @@ fn hold_other_root(image: &ImageRef<'_>, cnodes: &NumberSet, root: u32) -> bool
 
 /// Whether an earlier thread has the root table, or one of the CNodes holds another.
 fn shares_vspace(image: &ImageRef<'_>, root: u32, cnodes: &NumberSet, roots: &NumberSet) -> bool
-    ensures { result ≡ (is_member root roots.now || list_any (λ c. is_member c.cnode cnodes.now && is_root_type (source_type image.now c.source) && not (c.source == root)) image.now.capabilities) }
+    ensures { result ≡ (is_member root roots.now
+        || list_any (λ c. is_member c.cnode cnodes.now && is_root_type (source_type image.now c.source) && not (c.source == root)) image.now.capabilities) }
 {
     roots.contains(root) || hold_other_root(image, cnodes, root)
 }
@@ -250,7 +253,8 @@ fn check_thread(
     requires there { slice_get image.now.threads number ≡ Some thread.now }
     requires earlier { AreEarlier image.now (take number image.now.threads) earlier.old.tcbs earlier.old.roots earlier.old.cnodes earlier.old.buffers }
     ensures rules { Answers (first_broken (rules_of_thread image.now (record { number = number; thread = thread.now }))) result }
-    ensures earlier { OnOk result (AreEarlier image.now (take (number + 1) image.now.threads) earlier.new.tcbs earlier.new.roots earlier.new.cnodes earlier.new.buffers) }
+    ensures earlier { OnOk result (AreEarlier image.now
+        (take (number + 1) image.now.threads) earlier.new.tcbs earlier.new.roots earlier.new.cnodes earlier.new.buffers) }
 {
     let header = thread.header();
     if is_bad(image, number, thread, &earlier.tcbs) {

@@ -1,6 +1,8 @@
 //! What a system call changes stays within authority, from every sound state and whoever waits at what the call names.
 
-ghost use Rattle.headline.specs.authority.Laws.{AcknowledgementsStayWithin, CharactersStayWithin, HandlersStayWithin, MappingsStayWithin, ReceivesStayWithin, RepliesStayWithin, RepliesToReceiveStayWithin, RepliesToWaitStayWithin, SendsStayWithin, SignalsStayWithin, WaitsStayWithin, YieldsStayWithin};
+ghost use Rattle.headline.specs.authority.Laws.{AcknowledgementsStayWithin, CharactersStayWithin, HandlersStayWithin, MappingsStayWithin};
+ghost use Rattle.headline.specs.authority.Laws.{ReceivesStayWithin, RepliesStayWithin, RepliesToReceiveStayWithin, RepliesToWaitStayWithin};
+ghost use Rattle.headline.specs.authority.Laws.{SendsStayWithin, SignalsStayWithin, WaitsStayWithin, YieldsStayWithin};
 
 /// Call, Send and NBSend by a capability to an endpoint that writes stay within authority: the first receiver gets the message, or the
 /// thread waits, or nothing is sent.

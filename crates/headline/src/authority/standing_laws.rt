@@ -1,6 +1,9 @@
 //! Steps stay within authority where all threads of an accepted image are as certified.
 
-ghost use Rattle.headline.specs.authority.Laws.{EventsStayWithin, MessagesStayWithin, NotedCopiesStayWithin, NotedDeletesStayWithin, NotedMapsStayWithin, NotedMintsStayWithin, NotedMovesStayWithin, NotedRetypesStayWithin, NotedRevokesStayWithin, NotedUnmapsStayWithin, PlainStepsStayWithin, StepsStayWithin, ThreadsStartHoldingInside, ThreadsStartMappingOwn, WithinKeepsHoldingInside, WithinKeepsMappingOwn, WordsOfDataStay};
+ghost use Rattle.headline.specs.authority.Laws.{EventsStayWithin, MessagesStayWithin, NotedCopiesStayWithin, NotedDeletesStayWithin, NotedMapsStayWithin};
+ghost use Rattle.headline.specs.authority.Laws.{NotedMintsStayWithin, NotedMovesStayWithin, NotedRetypesStayWithin, NotedRevokesStayWithin};
+ghost use Rattle.headline.specs.authority.Laws.{NotedUnmapsStayWithin, PlainStepsStayWithin, StepsStayWithin, ThreadsStartHoldingInside};
+ghost use Rattle.headline.specs.authority.Laws.{ThreadsStartMappingOwn, WithinKeepsHoldingInside, WithinKeepsMappingOwn, WordsOfDataStay};
 
 use crate::events_keep_all_standing;
 use crate::invocations::laws_on_invocations;

@@ -31,7 +31,8 @@ pub fn a_plain_step_stays_within_authority()
 /// A Retype, by Send, that makes one endpoint in untyped memory of the thread's own, with its capability in a slot of its own, stays
 /// within authority.
 pub fn a_new_endpoint_stays_within_authority()
-    ensures { (image : Image) (t : Thread) (s : State) (offset bits watermark used first window : ℕ) (call : CallsOn image t s 3 (Untyped offset bits watermark))
+    ensures { (image : Image) (t : Thread) (s : State) (offset bits watermark used first window : ℕ)
+        (call : CallsOn image t s 3 (Untyped offset bits watermark))
         → call.own.caller ≢ Some (self_of image t) → call.own.caller ≢ Some first
         → MakesEndpoint image t s call.slot offset bits used first window → WithinAuthority image t s (system_call s (self_of image t)).0 }
 {}

@@ -1,6 +1,7 @@
 //! What an accepted image's threads find where they start.
 
-ghost use Rattle.headline.specs.starts.Laws.{ListedSlotsNameNoCode, MappingsAreAsListed, ProgramsStandAtTheirAddresses, SlotsAreAsListed, ThreadsAreAsListed, ThreadsStartAsCertified};
+ghost use Rattle.headline.specs.starts.Laws.{ListedSlotsNameNoCode, MappingsAreAsListed, ProgramsStandAtTheirAddresses};
+ghost use Rattle.headline.specs.starts.Laws.{SlotsAreAsListed, ThreadsAreAsListed, ThreadsStartAsCertified};
 
 /// The thread object of each thread is as the image lists it.
 pub fn threads_are_as_listed()

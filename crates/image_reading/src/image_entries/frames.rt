@@ -24,7 +24,8 @@ pub fn frame_at(image: &ImageRef<'_>, root: u32, address: u32) -> Option<FrameEn
     ensures value { result ≡ frame_at image.now root address }
     ensures fits { IfSome result (FrameFits image.now) }
     // No other frame is mapped there.
-    ensures only { (holds : FrameEntry → Bool) → list_any (λ f. f.root == root && (f.address == address) && holds f) image.now.frames ≡ option_map_or holds result false }
+    ensures only { (holds : FrameEntry → Bool)
+        → list_any (λ f. f.root == root && (f.address == address) && holds f) image.now.frames ≡ option_map_or holds result false }
 {
     let place = frame_place(image, root, address);
     if header_of(image).frames <= place {

@@ -59,11 +59,13 @@ text:18: OverBudget: thread main, `addi x5 x0 10`: the thread does not start as 
   the measure is 35 at the start, above the budget 34 by 1
 @ 20 measure 3 x5 2
 text:24: MeasureNotFalling: thread main, `addi x5 x5 -1`: the measure does not fall
-  on the way to line 28, `bne x5 x0 loop`: the measure is 2 + 2*x5 here, and there 4 + 3*x5: it has to fall by 1, and misses that by 10; the record there is on line 25
+  on the way to line 28, `bne x5 x0 loop`: the measure is 2 + 2*x5 here, and there 4 + 3*x5: it has to fall by 1, and misses that by 10; \
+    the record there is on line 25
   known here: x5 1..10, x14 0x2000; measure 2 + 2*x5; budget 35
 @ 25 measure 3 x5 3
 text:28: MeasureNotFalling: thread main, `bne x5 x0 loop`: the measure does not fall
-  on the way to line 23, `sw x5 0(x14)`: the measure is 3 + 3*x5 here, and there 3 + 3*x5: it has to fall by 1, and misses that by 1; the record there is on line 20
+  on the way to line 23, `sw x5 0(x14)`: the measure is 3 + 3*x5 here, and there 3 + 3*x5: it has to fall by 1, and misses that by 1; \
+    the record there is on line 20
   known here: x5 0..9, x14 0x2000; measure 3 + 3*x5; budget 35
 @ 17 # none
 text:18: RangeNotKept: thread main, `addi x5 x0 10`: the entry has no record
@@ -142,12 +144,14 @@ text:7: NoRoom: `object main u tcb`: no room: `u` (line 2) has 0x4000 bytes, and
 @ 2 untyped u 0x400 10
 text:2: UntypedOverlap: `untyped u 0x400 10`: it begins inside the boot area, which ends at 0x500 (16 bytes for each of 2^RADIX + 64 slots)
 @ 1 memory 16 3
-text:1: BadObject: `memory 16 3`: the boot CNode has 8 slots, and needs 13: for untyped memories 1, objects 7, interrupt control 1, interrupts twice 1, mapped frames 2
+text:1: BadObject: `memory 16 3`: the boot CNode has 8 slots, and needs 13: for untyped memories 1, objects 7, interrupt control 1, interrupts twice 1, mapped \
+    frames 2
   the radix has to be 4 or more
 @ 14 map vs 0x1000 code 7
 text:14: WritableCode: `map vs 0x1000 code 7`: `code` is mapped to write and to execute: code has a frame of its own
 @ 16 thread main cs 28 vs 100 35 0 start 0x2000
-text:16: BadThread: `thread main cs 28 vs 100 35 0 start 0x2000`: thread main has 9 instructions from 0x2000 on, and the page 0x2000 is not mapped under `vs` with execute (4)
+text:16: BadThread: `thread main cs 28 vs 100 35 0 start 0x2000`: thread main has 9 instructions from 0x2000 on, and the page 0x2000 is not mapped under `vs` \
+    with execute (4)
 ";
 
 /// What is refused of a device page.

@@ -56,7 +56,8 @@ end
 const IN_CALLS: &str = "
 @ 41 # none
 text:38: CapNotThere: thread worker, `addi x17 x0 5`: the slots after it are not those that are noted there
-  slot cs 1 holds untyped memory `pool`, 0x1000 bytes used, made from the boot CNode on the way to line 43, `addi x10 x0 5`, where it is noted with untyped memory `pool`, 0x0 bytes used, made from the boot CNode; write `slot cs 1 0x014000d1 0x1000 boot 0` after line 39
+  slot cs 1 holds untyped memory `pool`, 0x1000 bytes used, made from the boot CNode on the way to line 43, `addi x10 x0 5`, where it is noted with untyped \
+    memory `pool`, 0x0 bytes used, made from the boot CNode; write `slot cs 1 0x014000d1 0x1000 boot 0` after line 39
   known here: x10 0, x11 0, x12 3, x13 32, x14 0x3000, x15 3, x17 1, x18 4, x19 1; measure 10; budget 40
 @ 22 addi x12 x0 2
 text:28: CallRefused: thread worker, `ecall`: Retype (label 1), by Call on a0 = 1, slot cs 1, untyped memory `pool`, 0x0 bytes used: error 3, IllegalOperation
@@ -68,13 +69,15 @@ text:28: CallRefused: thread worker, `ecall`: Retype (label 1), by Call on a0 = 
 text:36: CallRefused: thread worker, `ecall`: Map (label 13), by Call on a0 = 4, slot cs 4, frame at 0x14000 (read, write): error 3, IllegalOperation
   accepted programs map without execute: take 4 off the rights (word 3)
   words: 4 of 4 given, 0 (x12) 3, 1 (x13) 32, 2 (x14) 0x3000, 3 (x15) 7
-  full slots: cs 1 untyped memory `pool`, 0x1000 bytes used; cs 2 CNode `cs`; cs 3 root table `vs`; cs 4 frame at 0x14000 (read, write); cs 5 notification `bell` (read), badge 0
+  full slots: cs 1 untyped memory `pool`, 0x1000 bytes used; cs 2 CNode `cs`; cs 3 root table `vs`; cs 4 frame at 0x14000 (read, write); \
+    cs 5 notification `bell` (read), badge 0
   known here: x10 4, x11 0xd004, x12 3, x13 32, x14 0x3000, x15 7, x17 1, x18 4, x19 1; measure 12; budget 40
 @ 34 addi x14 x0 100
 text:36: CallRefused: thread worker, `ecall`: Map (label 13), by Call on a0 = 4, slot cs 4, frame at 0x14000 (read, write): error 5, AlignmentError
   the address (word 2) is no multiple of 4096
   words: 4 of 4 given, 0 (x12) 3, 1 (x13) 32, 2 (x14) 100, 3 (x15) 3
-  full slots: cs 1 untyped memory `pool`, 0x1000 bytes used; cs 2 CNode `cs`; cs 3 root table `vs`; cs 4 frame at 0x14000 (read, write); cs 5 notification `bell` (read), badge 0
+  full slots: cs 1 untyped memory `pool`, 0x1000 bytes used; cs 2 CNode `cs`; cs 3 root table `vs`; cs 4 frame at 0x14000 (read, write); \
+    cs 5 notification `bell` (read), badge 0
   known here: x10 4, x11 0xd004, x12 3, x13 32, x14 100, x15 3, x17 1, x18 4, x19 1; measure 12; budget 40
 @ 1 memory 17 5
 accepted

@@ -1,7 +1,8 @@
 //! What the words of a record say.
 
 ghost use Rattle.std.specs.Prelude.{◌≡◌};
-ghost use Rattle.objects.specs.thread_records.Records.{access_from, caller_from, caller_words, cause_from, failure_from, failure_left, fault_from, sending_from, sending_words, sent_from, sent_words, status_from, status_words};
+ghost use Rattle.objects.specs.thread_records.Records.{access_from, caller_from, caller_words, cause_from, failure_from, failure_left, fault_from};
+ghost use Rattle.objects.specs.thread_records.Records.{sending_from, sending_words, sent_from, sent_words, status_from, status_words};
 ghost use Rattle.objects.specs.declared.thread_records.records.Sent.TheVariants as Sent;
 
 use crate::thread_records::records::{Fault, Sending, Sent, Status};

@@ -61,7 +61,8 @@ fn has_one(measure: &Measure, registers: &[Register]) -> bool
 pub fn follows_call(budget: u64, measure: &Measure, behind: &Behind) -> AtPoint<Left>
     requires budget { budget ≤ 2 ^ 62 }
     requires measure { negsuc (2 ^ 63 - 2) ≤ℤ (measure_of measure.now).constant }
-    ensures { (t : Thread) (slots : List NotedSlot) → t.header.budget ≡ budget → left_with slots result ≡ behind_call t (measure_of measure.now) (behind_with slots behind.now) }
+    ensures { (t : Thread) (slots : List NotedSlot) → t.header.budget ≡ budget
+        → left_with slots result ≡ behind_call t (measure_of measure.now) (behind_with slots behind.now) }
 {
     let measure = if behind.is_wait {
         Measure::new(budget as i64)

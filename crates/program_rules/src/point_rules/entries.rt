@@ -83,7 +83,8 @@ pub(crate) fn entered(
     state: &Known,
     has_slots: bool,
 ) -> Result<(), Refusal>
-    ensures { (image : Image) (t : Numbered) (slots : List NotedSlot) → t.thread ≡ thread.now → at ≡ point_of t t.thread.header.entry → has_slots ≡ are_same_slots slots (image_slots image t.thread)
+    ensures { (image : Image) (t : Numbered) (slots : List NotedSlot) → t.thread ≡ thread.now → at ≡ point_of t t.thread.header.entry
+        → has_slots ≡ are_same_slots slots (image_slots image t.thread)
         → result_err result ≡ first_broken (entry_rules image t (states.Known (known_of slots state.now))) }
 {
     let words = start_values(thread);

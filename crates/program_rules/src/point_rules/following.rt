@@ -39,7 +39,8 @@ pub(crate) fn writes_term(instr: Instr, measure: &Measure) -> bool
 pub fn follows(pc: u32, instr: Instr, bounds: &Bounds, measure: &Measure) -> AtPoint<Left>
     requires instr { IsInstr instr }
     requires measure { negsuc (2 ^ 63 - 2) ≤ℤ (measure_of measure.now).constant }
-    ensures { (slots : List NotedSlot) → left_with slots result ≡ follows_edge instr (known_with bounds.now slots (measure_of measure.now)) (after pc instr bounds.now).fall_through }
+    ensures { (slots : List NotedSlot) → left_with slots result
+        ≡ follows_edge instr (known_with bounds.now slots (measure_of measure.now)) (after pc instr bounds.now).fall_through }
 {
     match after(pc, instr, bounds).fall_through {
         Some(_) if writes_term(instr, measure) => AtPoint::Unmeasured,

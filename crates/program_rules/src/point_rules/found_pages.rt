@@ -35,7 +35,8 @@ impl FoundPages {
     /// Goes on to a point whose slots are those of a part. What was found with others is forgotten.
     pub fn go_on(&mut self, part: Part)
         ensures part { self.new.part ≡ part }
-        ensures found { (image : Image) (t : Thread) (slots : List NotedSlot) (log : List LogEntry) → Holds log part → AreFound image t slots log self.old → AreFound image t slots log self.new }
+        ensures found { (image : Image) (t : Thread) (slots : List NotedSlot) (log : List LogEntry) → Holds log part → AreFound image t slots log self.old
+            → AreFound image t slots log self.new }
     {
         if !self.part.is_same(part) {
             self.part = part;

@@ -72,7 +72,8 @@ impl AccessPages<'_, '_, '_, '_> {
 
     /// Whether a page is mapped.
     fn is_mapped(&self, page: Page) -> bool
-        ensures { result ≡ is_mapped_for self.now.pages.now.image.now self.now.pages.now.thread.now (slots_of self.now.pages.now.slots) self.now.access page.number }
+        ensures { result ≡ is_mapped_for self.now.pages.now.image.now self.now.pages.now.thread.now
+            (slots_of self.now.pages.now.slots) self.now.access page.number }
     {
         let pages = self.pages;
         is_listed(pages.image, pages.thread, self.access, page)
@@ -83,8 +84,10 @@ impl AccessPages<'_, '_, '_, '_> {
     /// are one step, and so are those that were found.
     fn mapped_to(&self, page: Page) -> Option<u32>
         ensures later { IfSome result (λ next. page.number < next) }
-        ensures mapped { IfSome result (λ next. (p : ℕ) → page.number ≤ p → p < next → is_mapped_for self.now.pages.now.image.now self.now.pages.now.thread.now (slots_of self.now.pages.now.slots) self.now.access p ≡ true) }
-        ensures missing { IfNone result (is_mapped_for self.now.pages.now.image.now self.now.pages.now.thread.now (slots_of self.now.pages.now.slots) self.now.access page.number ≡ false) }
+        ensures mapped { IfSome result (λ next. (p : ℕ) → page.number ≤ p → p < next
+            → is_mapped_for self.now.pages.now.image.now self.now.pages.now.thread.now (slots_of self.now.pages.now.slots) self.now.access p ≡ true) }
+        ensures missing { IfNone result (is_mapped_for self.now.pages.now.image.now self.now.pages.now.thread.now
+            (slots_of self.now.pages.now.slots) self.now.access page.number ≡ false) }
     {
         let found = self.found;
         let known = found.end(page.number);
@@ -106,8 +109,10 @@ impl AccessPages<'_, '_, '_, '_> {
     /// are mapped.
     fn mapped_before(&self, first: Page, last: Page) -> u32
         ensures from { first.number ≤ result }
-        ensures mapped { (p : ℕ) → first.number ≤ p → p < result → is_mapped_for self.now.pages.now.image.now self.now.pages.now.thread.now (slots_of self.now.pages.now.slots) self.now.access p ≡ true }
-        ensures missing { result ≤ last.number → is_mapped_for self.now.pages.now.image.now self.now.pages.now.thread.now (slots_of self.now.pages.now.slots) self.now.access result ≡ false }
+        ensures mapped { (p : ℕ) → first.number ≤ p → p < result
+            → is_mapped_for self.now.pages.now.image.now self.now.pages.now.thread.now (slots_of self.now.pages.now.slots) self.now.access p ≡ true }
+        ensures missing { result ≤ last.number → is_mapped_for self.now.pages.now.image.now self.now.pages.now.thread.now
+            (slots_of self.now.pages.now.slots) self.now.access result ≡ false }
     {
         let mut page = first.number;
         'pages: for _ in first.number..last.number + 1 {
@@ -149,7 +154,8 @@ impl Pages<'_, '_> {
     /// found now are noted.
     pub(crate) fn reaches(&self, access: Access, bytes: ReachedBytes, found: &mut FoundRuns) -> bool
         requires { AreRuns (is_mapped_for self.now.image.now self.now.thread.now (slots_of self.now.slots) access) found.old }
-        ensures is { result ≡ is_allowed self.now.image.now self.now.thread.now (slots_of self.now.slots) access (byte_len (width_of bytes.size)) (pos bytes.range.low +ℤ bytes.offset) (pos bytes.range.high +ℤ bytes.offset) }
+        ensures is { result ≡ is_allowed self.now.image.now self.now.thread.now (slots_of self.now.slots) access (byte_len (width_of bytes.size))
+            (pos bytes.range.low +ℤ bytes.offset) (pos bytes.range.high +ℤ bytes.offset) }
         ensures found { AreRuns (is_mapped_for self.now.image.now self.now.thread.now (slots_of self.now.slots) access) found.new }
     {
         let least = moved(bytes.range.low, bytes.offset);

@@ -46,7 +46,8 @@ pub(crate) fn kept_at<S: Step>(
     has_slots: bool,
 ) -> Result<(), Refusal>
     ensures { (t : Thread) (address : ℕ) (here there : List NotedSlot) → t.header.budget ≡ budget → has_slots ≡ are_same_slots here there
-        → result_err result ≡ first_broken (kept_at t way.now.at (measure_of way.now.measure.now) (edge_of address (S.value_of step.now) here way.now) (known_of there target.now)) }
+        → result_err result ≡ first_broken (kept_at t way.now.at (measure_of way.now.measure.now) (edge_of address (S.value_of step.now) here way.now)
+        (known_of there target.now)) }
 {
     let at = way.at;
     if !are_within(way.behind, &target.bounds) {

@@ -94,7 +94,8 @@ const WORKER_ROWS: &str = "
     CapNotThere 0 1 | 28 measure 27/range x18 4 4/range x19 1 1/slot cs 6 0x01600002 0 boot 0
 
     # The store stands behind the Revoke: x14 holds the page's address still.
-    NotMapped 0 8 | 24 thread worker cs 28 vs 100 29 0 start 0x1000 ; 28 measure 28/range x14 0x3000 0x3000/range x18 4 4/range x19 1 1/slot cs 1 0x018000D1 0x1000 boot 0/slot cs 4 0x01800636 0x6023 cs 1 ; 35 ecall/sw x19 0(x14)
+    NotMapped 0 8 | 24 thread worker cs 28 vs 100 29 0 start 0x1000 ; 28 measure 28/range x14 0x3000 0x3000/range x18 4 4/range x19 1 1/slot cs 1 0x018000D1 \
+        0x1000 boot 0/slot cs 4 0x01800636 0x6023 cs 1 ; 35 ecall/sw x19 0(x14)
 
     # The roots of both are one CNode, or the second reaches the first's by a capability.
     SharedCSpace 1 0 | 59 thread receiver cs 28 vs2 100 3 0 again 0x1000
@@ -106,7 +107,8 @@ const WORKER_ROWS: &str = "
     BadThread 1 0 | 59 thread worker cs2 28 vs2 100 3 0 again 0x1000
     # They have one message buffer, or two.
     BadBuffer 1 0 | 14 object pool u untyped 13/object words u frame ; 25 buffer words/reg x17 1/reg x18 4/reg x19 1 ; 60 buffer words/reg x17 5
-    accepted | 14 object pool u untyped 13/object words u frame/object words2 u frame ; 25 buffer words/reg x17 1/reg x18 4/reg x19 1 ; 60 buffer words2/reg x17 5
+    accepted | 14 object pool u untyped 13/object words u frame/object words2 u frame ; 25 buffer words/reg x17 1/reg x18 4/reg x19 1 ; \
+        60 buffer words2/reg x17 5
 ";
 
 #[test]

@@ -73,7 +73,8 @@ const ROWS: &str = "
     CapNotThere 1 4 | 16 cap cs2 1 port 2 1 ; 38 addi x11 x5 0
     CallNotConstant 1 4 | 16 cap cs2 1 port 9 1 ; 38 addi x11 x5 0
     # Where every badge and no word is promised, a1 has to be known all the same.
-    CallNotConstant 1 4 | 21 promise port 0 0xFFFFFFF ; 27 measure 4 ; 28 # none ; 29 loop: jal x0 start ; 30 # none ; 31 # none ; 32 # none ; 33 # none ; 38 addi x11 x5 0
+    CallNotConstant 1 4 | 21 promise port 0 0xFFFFFFF ; 27 measure 4 ; 28 # none ; 29 loop: jal x0 start ; 30 # none ; 31 # none ; 32 # none ; 33 # none ; \
+        38 addi x11 x5 0
     accepted | 21 promise port 0 0xFFFFFFF ; 27 measure 4 ; 28 # none ; 29 loop: jal x0 start ; 30 # none ; 31 # none ; 32 # none ; 33 # none
     # NBSend and Call keep it too.
     PromiseNotKept 1 4 | 39 addi x12 x0 12 ; 40 addi x17 x0 4

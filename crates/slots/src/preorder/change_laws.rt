@@ -1,6 +1,7 @@
 //! Laws on what changes leave of rows, their slots and their links.
 
-ghost use Rattle.slots.specs.preorder.Laws.{ChangesKeepDepths, ChangesKeepRising, ChangesOrderSlots, FirstKeepsChain, LoweringKeepsDepths, PutAfterAddsOne, PutAfterKeepsChain, WithoutKeepsChain};
+ghost use Rattle.slots.specs.preorder.Laws.{ChangesKeepDepths, ChangesKeepRising, ChangesOrderSlots, FirstKeepsChain};
+ghost use Rattle.slots.specs.preorder.Laws.{LoweringKeepsDepths, PutAfterAddsOne, PutAfterKeepsChain, WithoutKeepsChain};
 
 /// Rows rise by one at most after each change.
 pub fn changes_keep_rising()

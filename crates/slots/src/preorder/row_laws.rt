@@ -1,6 +1,7 @@
 //! Laws on the parents and depths of rows in preorder.
 
-ghost use Rattle.slots.specs.preorder.Laws.{DescendantsAreTheRunBehind, FirstHasNone, NoRowNoParent, PutBehindHasParent, RenamedIsAdopted, RowsHaveTheirDepths, TakenOutIsAdopted};
+ghost use Rattle.slots.specs.preorder.Laws.{DescendantsAreTheRunBehind, FirstHasNone, NoRowNoParent, PutBehindHasParent};
+ghost use Rattle.slots.specs.preorder.Laws.{RenamedIsAdopted, RowsHaveTheirDepths, TakenOutIsAdopted};
 
 /// A row right after its parent's has that parent, and the others keep theirs.
 pub fn a_row_behind_its_parent_has_it()
