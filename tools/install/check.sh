@@ -33,6 +33,11 @@ calls() {
     done
     [ "$("$1/bin/microsys_tool" draw "$root/samples/gallery/controller.sys")" = \
         "microsys_tool draw $root/samples/gallery/controller.sys" ] || { echo "draw of $1" && exit 1; }
+    [ "$(MICROSYS_TOOL="$1/libexec/microsys/microsys_tool" python3 -B "$1/share/microsys/make_system/make_system.py" draw it.img)" = \
+        "microsys_tool draw it.img" ] || { echo "the script for parts in C of $1" && exit 1; }
+    # The stand-in writes no text of the system, whose part is in C.
+    "$1/bin/microsys_tool" make "$root/samples/c/ring/ring.sys" "$room/none" 2>&1 | grep -q '^file .*/ring.text: ' ||
+        { echo "make of $1" && exit 1; }
     env -u MICROSYS -u MICROSYS_TOOL PYTHONPATH="$1/share/microsys/python" python3 -B -c '
 import os, sys
 from microsys.system import _program

@@ -37,8 +37,9 @@ install)
     }
     copy 755 bin "$program"
     copy 755 libexec/microsys "$tool"
-    copy 644 share/microsys/make_system tools/make_system/make_system.py tools/make_system/sizes.py \
-        tools/make_system/cases.py
+    for name in make_system cases coverage failed sizes symbols; do
+        copy 644 share/microsys/make_system "tools/make_system/$name.py"
+    done
     copy 755 share/microsys/make_system tools/make_system/microsys_tool
     ln -sf ../share/microsys/make_system/microsys_tool "$to/bin/microsys_tool"
     copy 644 share/microsys/from_c tools/from_c/*.py tools/from_c/runtime.c tools/from_c/microsys.h
