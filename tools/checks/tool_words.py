@@ -265,12 +265,21 @@ def missing_in_page(all_words):
                 yield f"{PAGE.relative_to(ROOT)}: the item of `{it.name}` does not name {option.flag}"
 
 
+def started():
+    """What tools/make_system/microsys_tool has of SYSTEMS, and of OPTIONS."""
+    text, found = STARTER.read_text(encoding="utf-8"), {}
+    for names, systems, least, most in re.findall(r"^([a-z |]+)\) systems='?([1-9 ]+)'? least=(\d+) most=(\d+) ;;$", text, re.M):
+        counted = tuple(int(it) - 1 for it in systems.split()), int(least), int(most)
+        found.update({name: counted for name in names.split(" | ")})
+    return found, set(re.search(r"^    (-[-A-Za-z |]+)\) is_value=yes", text, re.M)[1].split(" | "))
+
+
 def other_in_script(all_words):
     """Where tools/make_system counts otherwise the systems and files after a word, or does not get a word that takes systems."""
     text = SCRIPT.read_text(encoding="utf-8")
     held = ast.literal_eval(re.search(r"^SYSTEMS = (\{.*?^\})", text, re.M | re.S)[1])
     options = ast.literal_eval(re.search(r"^OPTIONS = (\{.*?\})", text, re.M | re.S)[1])
-    starter = set(re.search(r"^([a-z |]+)\)$", STARTER.read_text(encoding="utf-8"), re.M)[1].split(" | "))
+    starter, skipped = started()
     for it in all_words:
         systems = tuple(number for number, place in enumerate(it.places) if place.form.lstrip("?") in SYSTEMS)
         if it.is_added or it.name in PLAIN:
@@ -282,8 +291,10 @@ def other_in_script(all_words):
         for option in it.options:
             if it.name in held and option.value and option.flag not in options:
                 yield f"{SCRIPT.relative_to(ROOT)}: OPTIONS has no {option.flag}"
-    for name in sorted(starter ^ set(held)):
+    for name in sorted(name for name in starter.keys() | held.keys() if name != "cover" and starter.get(name) != held.get(name)):
         yield f"{STARTER.relative_to(ROOT)}: `{name}` is not given to the script as SYSTEMS has it"
+    if skipped != options:
+        yield f"{STARTER.relative_to(ROOT)}: the options with a word after them are not those of OPTIONS: {' '.join(sorted(skipped ^ options))}"
 
 
 def main():
