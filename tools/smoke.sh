@@ -1,16 +1,23 @@
 #!/usr/bin/env bash
 # Starts what is cheap of each script under tools/, some seconds each: what needs nothing but Python 3 and the repository
 # runs everywhere; what lacks a compiler, another program, or the built product is skipped, and a line says so. Prints a
-# line for each part, and fails where one fails. `make test` runs it before the gate.
+# line for each part, and fails where one fails, or where a script is neither started nor named. `make test` runs it before
+# the gate.
 set -u
 cd "$(dirname "$0")/.." || exit 1
 room="$(mktemp -d)"
 trap 'rm -rf "$room"' EXIT
 bad=0
 
+# Notes the scripts that words name, as tools/..; `all_are_named` looks for others.
+note() {
+    grep -oE 'tools/[a-z_0-9/]+(\.py|\.sh)?' <<<"$*" >>"$room/named"
+}
+
 # Runs a part, whose lines are shown where it fails, and those of what it skips in any case.
 part() {
     local name="$1"
+    note "$@"
     shift
     if "$@" >"$room/said" 2>&1; then
         echo "as expected: $name"
@@ -26,10 +33,21 @@ part() {
 part_with() {
     local needed="$1" program
     shift
+    note "$@"
     for program in $needed; do
         command -v "$program" >"$room/found" || { echo "skipped: $1: $program is not there" && return; }
     done
     part "$@"
+}
+
+# Names scripts that are not started here, and says why.
+skipped() {
+    local why="$1" script
+    shift
+    for script in "$@"; do
+        echo "skipped: tools/$script: $why"
+        note "tools/$script"
+    done
 }
 
 # Each script is one: shell, Python and C, as far as they can be read without being run.
@@ -149,13 +167,20 @@ one_kit() {
     [ "$(wc -l <"$room/kits") $(sort -u "$room/kits" | wc -l)" = "3 1" ]
 }
 
-# A script that is not in this file would be neither run nor missed.
+# A script that no line names, and that no run.sh starts, would be neither run nor missed.
 all_are_named() {
-    local file name
-    for file in tools/*/run.sh; do
-        name="$(basename "$(dirname "$file")")"
-        grep -qE "tools/$name/run\.sh|^for script in .*\b$name\b" tools/smoke.sh || { echo "$file" && return 1; }
-    done
+    local file unnamed=0
+    while read -r file; do
+        [ "$(head -c 3 "$file" | tr -d '\0')" = '#!/' ] || continue
+        grep -qxF "$file" "$room/named" || is_started "$file" || { echo "$file: neither started nor named in tools/smoke.sh" && unnamed=1; }
+    done < <(find tools -type f ! -name "*.pyc" ! -path tools/smoke.sh | sort)
+    return "$unnamed"
+}
+is_started() {
+    local beside
+    beside="$(dirname "$1")/run.sh"
+    [ "$1" != "$beside" ] || return 1
+    grep -qF "$1" tools/*/run.sh samples/live/run.sh || { [ -f "$beside" ] && grep -qwF "$(basename "$1")" "$beside"; }
 }
 
 part_with python3 "tools, read" scripts_say_nothing
@@ -172,8 +197,8 @@ part_with python3 "tools/traces/reckon.py" python3 tools/traces/reckon.py compar
 part_with python3 "tools/damage/reckon.py" reckons_damage
 part_with python3 "tools/promises/systems.py" reckons_promises
 part_with python3 "tools/buffers/systems.py" reckons_buffers
-part_with python3 "tools/devices" reckons_devices
-part_with python3 "tools/parts" reckons_parts
+part_with python3 "tools/devices/systems.py, tools/devices/hostile.py" reckons_devices
+part_with python3 "tools/parts/rows.py, tools/parts/systems.py" reckons_parts
 part_with python3 "tools/python/run.sh --cheap" tools/python/run.sh --cheap
 part_with python3 "tools/integrity/check.py" python3 tools/integrity/check.py write "$room/integrity"
 part_with python3 "tools/hostile/crowd.py" makes_crowd
@@ -184,11 +209,13 @@ part_with cc "tools/memory/refuse_nth.c" compiles_c
 part_with "python3 riscv64-unknown-elf-as qemu-riscv32" "tools/rv32i_table.py" same_rows
 part_with "python3 clang llvm-objcopy" "tools/instruction_table.py" same_words
 part_with python3 "tools/from_c/run.sh --cheap" tools/from_c/run.sh --cheap
+part_with python3 "tools/make_system/microsys_tool, make_system.py" tools/make_system/check_starter.py
 part_with "make sha256sum" "tools/install/check.sh" tools/install/check.sh
 part_with python3 "tools/editors/check.py" tools/editors/check.py
 part_with "crates/microsys_tool/out/microsys_tool riscv64-unknown-elf-gcc python3" "tools/make_system/run.sh --cheap" \
     tools/make_system/run.sh --cheap
-part_with "crates/microsys_tool/out/microsys_tool riscv64-unknown-elf-gcc python3" "coverage and symbols of a sample" \
+part_with "crates/microsys_tool/out/microsys_tool riscv64-unknown-elf-gcc python3" \
+    "tools/make_system/coverage_beside.py, tools/make_system/symbols_beside.py" \
     sh -c 'tools/make_system/coverage_beside.py ring && tools/make_system/symbols_beside.py ring'
 part_with "crates/microsys_tool/out/microsys_tool python3" "tools/gdb/run.sh --cheap" tools/gdb/run.sh --cheap
 part_with "crates/microsys_tool/out/microsys_tool crates/microsys/out/microsys" "tools/described/run.sh" tools/described/run.sh
@@ -198,16 +225,15 @@ part_with "crates/microsys_tool/out/microsys_tool crates/microsys/out/microsys r
 part_with crates/microsys/out/microsys "tools/failing/run.sh" tools/failing/run.sh
 part_with crates/microsys_tool/out/microsys_tool "tools/explaining/check.py" tools/explaining/check.py \
     crates/microsys_tool/out/microsys_tool
-for script in bench certify damage integrity kernel_run large_images listing memory parts report response; do
-    echo "skipped: tools/$script/run.sh: takes minutes, and the built product"
-done
-for script in from_c gdb make_system; do
-    echo "skipped: tools/$script/run.sh without --cheap: takes minutes, and the built product"
-done
-for script in buffers/systems.py devices/systems.py devices/hostile.py promises/systems.py; do
-    echo "skipped: tools/$script compare: takes minutes, and the built product"
-done
-part "each tools/*/run.sh is started or named here" all_are_named
+skipped "takes minutes, and the built product" {bench,certify,damage,integrity,kernel_run,large_images,listing,memory,parts,report,response}/run.sh
+skipped "without --cheap it takes minutes, and the built product" {from_c,gdb,make_system}/run.sh
+skipped "with \`compare\` it takes minutes, and the built product" {buffers,devices,promises}/systems.py devices/hostile.py
+skipped "needs valgrind, for some rustc or strace, and the built product" bench/{by_function,calls_beside,lines_beside,live_beside,memory_sizes}.py \
+    certify/costs.py large_images/instructions.py
+skipped "goes on as long as it is told to" from_c/{check_analysis,random_run,random_programs}.py
+skipped "is no check" needs.sh checks/{lanes,libraries,module_times}.py checks/program.sh from_c/snippets/reckon.py install/{install,release}.sh \
+    make_system/make_system.py
+part "each script under tools/ is started or named here" all_are_named
 
 [ "$bad" = 0 ] && echo "tools: all as expected"
 [ "$bad" = 0 ]
