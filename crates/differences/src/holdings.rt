@@ -1,7 +1,6 @@
 //! What a text puts into CNodes and address spaces, by the numbers of these.
 
 use indexmap::IndexSet;
-use model::{ObjectKind, ObjectType};
 use source_texts::{CapabilityLine, FrameLine, Source, SourceText, SourceThread};
 use std::alloc::{AllocError, Global};
 
@@ -79,7 +78,7 @@ impl Holdings {
     ) -> Result<(), AllocError> {
         for capability in self.held_in(cnode) {
             if let Source::Object(number) = capability.source {
-                if is_cnode(text, number) {
+                if text.is_cnode(number) {
                     found.insert(number)?;
                 }
             }
@@ -113,7 +112,7 @@ impl Holdings {
         thread: &SourceThread<'_>,
         address: u32,
     ) -> Option<Source> {
-        let index = index_of(text, thread, address)?;
+        let index = text.root_index(thread, address)?;
         for capability in self.held_in(thread.cnode) {
             if capability.index == index {
                 return Some(capability.source);
@@ -121,23 +120,4 @@ impl Holdings {
         }
         None
     }
-}
-
-/// Whether an object is a CNode.
-fn is_cnode(text: &SourceText<'_>, number: usize) -> bool {
-    let kind = text.kind(number);
-    matches!(&kind, Some(ObjectType::Object(ObjectKind::CNode { .. })))
-}
-
-/// The index in the root CNode of a thread that an address names, where the guard and the index are the whole address.
-fn index_of(text: &SourceText<'_>, thread: &SourceThread<'_>, address: u32) -> Option<u32> {
-    let radix = u32::from(text.radix(thread.cnode));
-    let guard_size = thread.guard & 31;
-    if radix == 0 || radix >= 32 || guard_size.saturating_add(radix) != 32 {
-        return None;
-    }
-    if address >> radix != thread.guard >> 5 {
-        return None;
-    }
-    Some(address & ((1 << radix) - 1))
 }

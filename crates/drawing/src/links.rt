@@ -5,7 +5,7 @@ use crate::scenes::Scene;
 use model::{ObjectKind, ObjectType};
 use source_texts::{CapabilityLine, FrameLine, Source, SourceThread};
 use std::alloc::AllocError;
-use system_pictures::{Reached, index_of};
+use system_pictures::Reached;
 
 /// Of the rights of a capability, as the text has them.
 const WRITE: u32 = 1;
@@ -219,7 +219,7 @@ impl Scene<'_, '_, '_> {
         if thread.fault == 0 {
             return Ok(());
         }
-        let Some(index) = index_of(self.text, thread, thread.fault) else {
+        let Some(index) = self.text.root_index(thread, thread.fault) else {
             return Ok(());
         };
         match self.text.capability(thread.cnode, index) {

@@ -6,22 +6,10 @@ use crate::scenes::Scene;
 use model::{ObjectKind, ObjectType};
 use source_texts::{FrameLine, InterruptLine, PromiseLine, Source, SourceThread};
 use std::alloc::AllocError;
-use system_pictures::Reached;
+use system_pictures::{Reached, push_size};
 
 /// How many of a thread's own pages its node names.
 const MOST_PAGES: u32 = 8;
-
-/// An amount of memory of 2 to the power of so many bytes.
-fn push_size(to: &mut String, bits: u32) -> Result<(), AllocError> {
-    let number = 1u64 << (bits % 10);
-    let unit = match bits / 10 {
-        0 => "bytes",
-        1 => "KiB",
-        2 => "MiB",
-        _ => "GiB",
-    };
-    write!(to, "{number} {unit}")
-}
 
 /// What is before what is said in small letters below a name.
 const SMALL: &str = "<BR/><FONT POINT-SIZE=\"9\" COLOR=\"#555555\">";

@@ -140,12 +140,31 @@ impl<'a> SourceText<'a> {
         }
     }
 
+    /// Whether an object is a CNode.
+    pub fn is_cnode(&self, number: usize) -> bool {
+        let kind = self.kind(number);
+        matches!(&kind, Some(ObjectType::Object(ObjectKind::CNode { .. })))
+    }
+
     /// The radix of a CNode, or 0 if the object is none.
     pub fn radix(&self, number: usize) -> u8 {
         match self.kind(number) {
             Some(ObjectType::Object(ObjectKind::CNode { radix })) => radix,
             _ => 0,
         }
+    }
+
+    /// The index in the root CNode of a thread that an address names, where the guard and the index are the whole address.
+    pub fn root_index(&self, thread: &SourceThread<'_>, address: u32) -> Option<u32> {
+        let radix = u32::from(self.radix(thread.cnode));
+        let guard_size = thread.guard & 31;
+        if radix == 0 || radix >= 32 || guard_size.saturating_add(radix) != 32 {
+            return None;
+        }
+        if address >> radix != thread.guard >> 5 {
+            return None;
+        }
+        Some(address & ((1 << radix) - 1))
     }
 
     /// What is promised of the messages to an endpoint.

@@ -12,6 +12,6 @@ mod words;
 
 pub use faults::PictureFault;
 pub use pictures::{picture, picture_of};
-pub use reaches::{Reached, index_of, reached_in};
+pub use reaches::{Reached, reached_in};
 pub use uses::{Deed, LineUse, ObjectUse, Uses, uses_of};
-pub use words::{push_kind, push_said};
+pub use words::{push_kind, push_said, push_size};

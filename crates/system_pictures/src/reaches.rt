@@ -1,14 +1,7 @@
 //! The CNodes that a thread reaches, by its root and by what its capabilities name.
 
-use model::{ObjectKind, ObjectType};
 use source_texts::{CapabilityLine, Source, SourceText, SourceThread};
 use std::alloc::{AllocError, Global};
-
-/// Whether an object is a CNode.
-fn is_cnode(text: &SourceText<'_>, number: usize) -> bool {
-    let kind = text.kind(number);
-    matches!(&kind, Some(ObjectType::Object(ObjectKind::CNode { .. })))
-}
 
 /// The CNodes that a thread reaches.
 #[derive(Drop)]
@@ -50,7 +43,7 @@ impl Reached {
         match capability.source {
             Source::Object(number)
                 if self.contains(capability.cnode)
-                    && is_cnode(text, number)
+                    && text.is_cnode(number)
                     && !self.contains(number) => Some(number),
             _ => None,
         }
@@ -91,17 +84,4 @@ pub fn reached_in(alloc: Global, text: &SourceText<'_>) -> Result<Vec<Reached>, 
         reached.push(Reached::by(alloc, text, thread)?)?;
     }
     Ok(reached)
-}
-
-/// The index in the root CNode that an address names, where the root's guard and index are the whole address.
-pub fn index_of(text: &SourceText<'_>, thread: &SourceThread<'_>, address: u32) -> Option<u32> {
-    let radix = u32::from(text.radix(thread.cnode));
-    let guard_size = thread.guard & 31;
-    if radix == 0 || radix >= 32 || guard_size.saturating_add(radix) != 32 {
-        return None;
-    }
-    if address >> radix != thread.guard >> 5 {
-        return None;
-    }
-    Some(address & ((1 << radix) - 1))
 }

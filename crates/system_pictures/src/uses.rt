@@ -1,6 +1,6 @@
 //! What the threads of a text may do, and with which objects and lines, by what it gives them.
 
-use crate::reaches::{Reached, index_of, reached_in};
+use crate::reaches::{Reached, reached_in};
 use model::{ObjectKind, ObjectType};
 use source_texts::{CapabilityLine, FrameLine, Source, SourceText, SourceThread};
 use std::alloc::{AllocError, Global};
@@ -326,7 +326,7 @@ fn handler_of(text: &SourceText<'_>, thread: &SourceThread<'_>) -> Option<usize>
     if thread.fault == 0 {
         return None;
     }
-    let index = index_of(text, thread, thread.fault)?;
+    let index = text.root_index(thread, thread.fault)?;
     match text.capability(thread.cnode, index)?.source {
         Source::Object(object) => Some(object),
         Source::Interrupt(_) => None,

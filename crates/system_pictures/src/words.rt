@@ -43,7 +43,11 @@ pub(crate) fn shortened(alloc: Global, said: &str, most: usize) -> Result<String
 }
 
 /// An amount of memory of 2 to the power of so many bytes.
-fn push_size(to: &mut String, bits: u32) -> Result<(), AllocError> {
+///
+/// # Errors
+///
+/// Memory may be refused.
+pub fn push_size(to: &mut String, bits: u32) -> Result<(), AllocError> {
     let number = 1u64 << (bits % 10);
     let unit = match bits / 10 {
         0 => "bytes",
