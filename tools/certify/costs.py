@@ -14,7 +14,8 @@ loops in one another whose counters have no end. By `explain`: `badcopies` and `
 register that nobody writes, `loads` loads of a register that can be anything, `threads` has more threads than an image. By `verify`:
 `skips` makes objects and then branches over Unmaps that change nothing, `cskips` the same after copies, `backs` branches over a copy
 that is deleted again, `spans` branches over a change and its return, `mapped` loads from any of many pages between Unmaps, `depths`
-deletes from the end of a chain with copies at its end.
+deletes from the end of a chain with copies at its end, `selves` has records in which a slot was derived from itself, before as many
+calls, beside as many capabilities.
 """
 import argparse
 import os
@@ -135,6 +136,14 @@ def depths(count):
     return lines
 
 
+def selves(count):
+    """Records in which slot 5 was derived from itself, before as many calls."""
+    lines = ["addi x17 x0 3"]
+    for number in range(count):
+        lines += [f"measure {2 * count - number + 8}", "slot cs 5 0x018000D1 0x1000 cs 5", "ecall"]
+    return lines
+
+
 def threads(count):
     tcbs = [f"object t{number} u tcb" for number in range(count)]
     more = []
@@ -178,6 +187,11 @@ KINDS = {
     "spans": ("verify", lambda n: text_of(loaded(spans(n)) + revoked(1), budget=BIG), (500, 1000, 2000, 4000)),
     "mapped": ("verify", lambda n: text_of(mapped(n) + revoked(6), budget=BIG), (750, 1500, 3000, 6000)),
     "depths": ("verify", lambda n: text_of(depths(n) + revoked(1), budget=BIG), (500, 1000, 2000, 4000)),
+    "selves": (
+        "verify",
+        lambda n: text_of(selves(n) + WAIT, [f"cap cs {1000 + number} ep 3 0" for number in range(n)], budget=BIG),
+        (500, 1000, 2000, 4000),
+    ),
 }
 
 

@@ -1,11 +1,14 @@
 -- Lines of parents: so many steps as there are slots are enough.
-use Rattle.std.proofs.Common.{ℕ, zero, suc, ◌≡◌, ◌∙◌, ◌⊎◌, ◌+◌, ◌-◌, ◌<◌, ◌≤◌, inl, inr, Bool, true, false, not, nat_lt, if◌then◌else◌, Option, Some, None}
-use Rattle.std.proofs.Common.{List, [], ◌∷◌, length, refl, sym, ap, arith}
+use Rattle.std.proofs.Common.{ℕ, zero, suc, ◌≡◌, ◌∙◌, ◌⊎◌, ◌+◌, ◌-◌, ◌<◌, ◌≤◌, ◌||◌, inl, inr, Bool, true, false, not, nat_lt, if◌then◌else◌}
+use Rattle.std.proofs.Common.{Option, Some, None, List, [], ◌∷◌, length, is_some, refl, sym, ap, subst, arith}
+use Rattle.std.specs.List.{list_any}
 use Rattle.std.specs.Option.{option_map_or}
 use Rattle.std.proofs.lemmas.Bool.{eqb-true}
 use Rattle.model.specs.Acceptance.NotedStates.{NotedSlot, SlotKey, is_same_key, leads_to_boot, number_of, put_in, slot_at, with_noted, without_key}
+use Rattle.model.specs.Capabilities.CapabilityKinds.{frame_mapping}
 use Rattle.model.specs.Capabilities.Slots.{is_empty}
 use Rattle.typestate.specs.Differences.{changed}
+use Rattle.typestate.specs.Unlinked.{AreUnlinked, is_linked}
 use Rattle.typestate.proofs.Compared.{decided, same-place}
 use Rattle.typestate.proofs.SlotLists.{without-at}
 
@@ -109,47 +112,155 @@ suffices zero [] (suc n) (Some key) most leads = absurd (let no : false ≡ true
 suffices zero (s ∷ rest) n (Some key) most leads = absurd (omega (arith, most))
 suffices (suc m) slots n p most leads = one-more m (suffices m) n slots n p (omega arith) most leads
 
--- any number that is not less tells the same
-pub steps-enough : (m : ℕ) (slots : List NotedSlot) (p : Option SlotKey) → length slots ≤ m → leads_to_boot m slots p ≡ leads_to_boot (length slots) slots p
-steps-enough m slots p most =
-    decided (leads_to_boot m slots p) (leads_to_boot (length slots) slots p) (suffices (length slots) slots m p (omega arith))
-    (suffices m slots (length slots) p most)
+-- ---- how many slots were derived from others
 
--- ---- how many slots there are
+-- how many of a slot and those after it have a parent
+abbrev with-parent : Bool → ℕ → ℕ
+with-parent derived more = if derived then suc more else more
 
-put-length : (slot : NotedSlot) (others : List NotedSlot) → length (put_in slot others) ≡ length others + 1
-unfolding put_in
-put-length slot [] = refl
-put-length slot (o ∷ rest) = elim (nat_lt (number_of slot.key) (number_of o.key))
-    as (λ b. length (if b then slot ∷ o ∷ rest else o ∷ put_in slot rest) ≡ length (o ∷ rest) + 1) [
-      | true ↦ omega arith
-      | false ↦ omega (arith, put-length slot rest)
+links : List NotedSlot → ℕ
+links [] = 0
+links (s ∷ rest) = with-parent (is_some s.parent) (links rest)
+
+more-links : (derived : Bool) (a b : ℕ) → a ≤ b → with-parent derived a ≤ with-parent derived b
+more-links true a b most = omega (arith, most)
+more-links false a b most = most
+
+most-links : (derived : Bool) (a b : ℕ) → a ≤ b → a ≤ with-parent derived b
+most-links true a b most = omega (arith, most)
+most-links false a b most = most
+
+less-links : (derived : Bool) (a b : ℕ) → a < b → with-parent derived a < with-parent derived b
+less-links true a b less = omega (arith, less)
+less-links false a b less = less
+
+-- one more slot is at most one more with a parent
+next-links : (derived : Bool) (a b : ℕ) → a ≤ b → with-parent derived a ≤ b + 1
+next-links true a b most = omega (arith, most)
+next-links false a b most = omega (arith, most)
+
+fewer-links : (slots : List NotedSlot) (gone : SlotKey) → links (without_key gone slots) ≤ links slots
+unfolding links
+fewer-links [] gone = omega arith
+fewer-links (s ∷ rest) gone = elim (is_same_key s.key gone)
+    as (λ b. links (if not b then s ∷ without_key gone rest else without_key gone rest) ≤ links (s ∷ rest)) [
+      | true ↦ most-links (is_some s.parent) (links (without_key gone rest)) (links rest) (fewer-links rest gone)
+      | false ↦ more-links (is_some s.parent) (links (without_key gone rest)) (links rest) (fewer-links rest gone)
     ]
 
-noted-length : (slots : List NotedSlot) (change : NotedSlot) → length (with_noted slots change) ≤ length slots + 1
-noted-length slots change =
+one-link-less : (slots : List NotedSlot) (gone : SlotKey) (s : NotedSlot) → is_some s.parent ≡ true → slot_at slots gone ≡ Some s →
+    links (without_key gone slots) < links slots
+unfolding links
+one-link-less [] gone s derived is = absurd (let no : None ≡ Some s = is in cc)
+one-link-less (o ∷ rest) gone s derived is = elim (is_same_key o.key gone) as (λ b. (if b then Some o else slot_at rest gone) ≡ Some s →
+    links (if not b then o ∷ without_key gone rest else without_key gone rest) < links (o ∷ rest)) [
+      | true ↦ λ here.
+          let same : is_some o.parent ≡ true = ap (λ found. option_map_or (λ (x : NotedSlot). is_some x.parent) found true) here ∙ derived in
+          let less : links (without_key gone rest) < with-parent true (links rest) = omega (arith, fewer-links rest gone) in
+          subst (λ b. links (without_key gone rest) < with-parent b (links rest)) (sym same) less
+      | false ↦ λ later. less-links (is_some o.parent) (links (without_key gone rest)) (links rest) (one-link-less rest gone s derived later)
+    ] is
+
+no-link-at : (slots : List NotedSlot) (key : SlotKey) (s : NotedSlot) → links slots ≤ 0 → slot_at slots key ≡ Some s → s.parent ≡ None
+no-link-at slots key s none is = elim s.parent as (λ p. s.parent ≡ p → s.parent ≡ None) [
+  | None ↦ λ without. without
+  | Some other ↦ λ derived.
+      let less = one-link-less slots key s (ap (λ (p : Option SlotKey). is_some p) derived) is in
+      absurd (omega (arith, less, none))
+] refl
+
+put-behind : (derived : Bool) (a b : ℕ) → a ≤ b + 1 → with-parent derived a ≤ with-parent derived b + 1
+put-behind true a b most = omega (arith, most)
+put-behind false a b most = most
+
+put-links : (slot : NotedSlot) (others : List NotedSlot) → links (put_in slot others) ≤ links others + 1
+unfolding links put_in
+put-links slot [] = next-links (is_some slot.parent) 0 0 (omega arith)
+put-links slot (o ∷ rest) = elim (nat_lt (number_of slot.key) (number_of o.key))
+    as (λ b. links (if b then slot ∷ o ∷ rest else o ∷ put_in slot rest) ≤ links (o ∷ rest) + 1) [
+      | true ↦ next-links (is_some slot.parent) (links (o ∷ rest)) (links (o ∷ rest)) (omega arith)
+      | false ↦ put-behind (is_some o.parent) (links (put_in slot rest)) (links rest) (put-links slot rest)
+    ]
+
+noted-links : (slots : List NotedSlot) (change : NotedSlot) → links (with_noted slots change) ≤ links slots + 1
+noted-links slots change =
     let others = without_key change.key slots in
-    let less = fewer slots change.key in
-    elim (is_empty change.capability) as (λ b. length (if b then others else put_in change others) ≤ length slots + 1) [
+    let less = fewer-links slots change.key in
+    elim (is_empty change.capability) as (λ b. links (if b then others else put_in change others) ≤ links slots + 1) [
       | true ↦ omega (arith, less)
-      | false ↦ omega (arith, less, put-length change others)
+      | false ↦ omega (arith, less, put-links change others)
     ]
 
-pub changed-length : (slots changes : List NotedSlot) → length (changed slots changes) ≤ length slots + length changes
-changed-length slots [] = omega arith
-changed-length slots (c ∷ rest) = omega (arith, noted-length slots c, changed-length (with_noted slots c) rest)
+changed-links : (slots changes : List NotedSlot) → links (changed slots changes) ≤ links slots + length changes
+changed-links slots [] = omega arith
+changed-links slots (c ∷ rest) = omega (arith, noted-links slots c, changed-links (with_noted slots c) rest)
+
+not-derived : (derived mapped more : Bool) (n : ℕ) → (derived || mapped || more) ≡ false → (more ≡ false → n ≡ 0) → with-parent derived n ≡ 0
+not-derived false false more n none behind = behind none
+not-derived false true more n none behind = absurd (let no : true ≡ false = none in cc)
+not-derived true mapped more n none behind = absurd (let no : true ≡ false = none in cc)
+
+none-linked : (slots : List NotedSlot) → AreUnlinked slots → links slots ≡ 0
+unfolding links
+none-linked [] none = refl
+none-linked (s ∷ rest) none =
+    not-derived (is_some s.parent) (is_some (frame_mapping s.capability)) (list_any is_linked rest) (links rest) none (none-linked rest)
+
+-- ---- one step more than there are slots with a parent is enough
+
+abbrev LinksSuffice : ℕ → Type 0
+LinksSuffice m = (slots : List NotedSlot) (n : ℕ) (p : Option SlotKey) → links slots ≤ m → leads_to_boot n slots p ≡ true
+    → leads_to_boot (suc m) slots p ≡ true
+
+one-more-link : (m : ℕ) → LinksSuffice m → (bound : ℕ) (slots : List NotedSlot) (n : ℕ) (p : Option SlotKey) → n ≤ bound → links slots ≤ suc m →
+    leads_to_boot n slots p ≡ true → leads_to_boot (suc (suc m)) slots p ≡ true
+unfolding leads_to_boot
+one-more-link m enough bound slots n None below most leads = refl
+one-more-link m enough bound slots zero (Some key) below most leads = absurd (let no : false ≡ true = leads in cc)
+one-more-link m enough zero slots (suc n) (Some key) below most leads = absurd (omega (arith, below))
+one-more-link m enough (suc bound) slots (suc n) (Some key) below most leads =
+    elim (slot_at slots key) as (λ found. slot_at slots key ≡ found → on n slots found ≡ true → on (suc m) slots (slot_at slots key) ≡ true) [
+      | None ↦ λ _ clash. absurd (let no : false ≡ true = clash in cc)
+      | Some s ↦ λ is behind. ap (on (suc m) slots) is ∙ elim s.parent
+          as (λ p. s.parent ≡ p → leads_to_boot (suc m) slots s.parent ≡ true) [
+            | None ↦ λ ends. ap (leads_to_boot (suc m) slots) ends
+            | Some other ↦ λ derived. elim (around n slots key s.parent behind) [
+              | inl without ↦
+                  let less = one-link-less slots key s (ap (λ (p : Option SlotKey). is_some p) derived) is in
+                  leads-with (suc m) slots key s.parent (enough (without_key key slots) n s.parent (omega (arith, less, most)) without)
+              | inr comes ↦
+                  let again = one-more-link m enough bound slots comes.steps (Some key) (omega (arith, comes.few, below)) most comes.leads in
+                  sym (ap (on (suc m) slots) is) ∙ again
+            ]
+          ] refl
+    ] refl leads
+
+links-suffice : (m : ℕ) → LinksSuffice m
+unfolding leads_to_boot
+links-suffice zero slots n None most leads = refl
+links-suffice zero slots zero (Some key) most leads = absurd (let no : false ≡ true = leads in cc)
+links-suffice zero slots (suc n) (Some key) most leads =
+    elim (slot_at slots key) as (λ found. slot_at slots key ≡ found → on n slots found ≡ true → on zero slots (slot_at slots key) ≡ true) [
+      | None ↦ λ _ clash. absurd (let no : false ≡ true = clash in cc)
+      | Some s ↦ λ is behind. ap (on zero slots) is ∙ ap (leads_to_boot zero slots) (no-link-at slots key s most is)
+    ] refl leads
+links-suffice (suc m) slots n p most leads = one-more-link m (links-suffice m) n slots n p (omega arith) most leads
 
 -- ---- one step after another
 
-module _ (image changes : List NotedSlot) (parent : Option SlotKey) where
+module _ (image changes : List NotedSlot) (unlinked : AreUnlinked image) (parent : Option SlotKey) where
   abbrev all : List NotedSlot
   all = changed image changes
 
   abbrev bound : ℕ
-  bound = length image + length changes
+  bound = length changes + 1
+
+  few-links : links all ≤ length changes
+  few-links = omega (arith, changed-links image changes, none-linked image unlinked)
 
   whole : leads_to_boot bound all parent ≡ leads_to_boot (length all) all parent
-  whole = steps-enough bound all parent (changed-length image changes)
+  whole = decided (leads_to_boot bound all parent) (leads_to_boot (length all) all parent) (suffices (length all) all bound parent (omega arith))
+      (λ leads. ap (λ n. leads_to_boot n all parent) (omega arith) ∙ links-suffice (length changes) all (length all) parent few-links leads)
 
   one-step : (n : ℕ) (key : SlotKey) (found : Option NotedSlot) → slot_at all key ≡ found → leads_to_boot (suc n) all (Some key) ≡ on n all found
   unfolding leads_to_boot

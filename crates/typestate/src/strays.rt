@@ -12,12 +12,13 @@ use image_reading::RecordRef;
 use model::Cap;
 
 impl NotedSlots<'_> {
-    /// Whether parents lead from a slot to the boot CNode. They may go round: no line is longer than there are slots.
+    /// Whether parents lead from a slot to the boot CNode. They may go round: only changes bring parents, so that no line is longer
+    /// than there are changes, but for the slot at its end.
     fn leads_to_boot(&self, parent: Option<SlotKey>) -> bool
         ensures { result ≡ leads_to_boot (length (slots_of self.now)) (slots_of self.now) parent }
     {
         let mut place = parent;
-        'line: for _ in 0..self.image.len() + self.changes.len() {
+        'line: for _ in 0..self.changes.len() + 1 {
             let Some(key) = place else {
                 return true;
             };

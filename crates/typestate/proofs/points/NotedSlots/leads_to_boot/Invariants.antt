@@ -6,5 +6,5 @@ use Rattle.typestate.proofs.points.NotedSlots.leads_to_boot.Given as goal
 
 abbrev pub invariant-line : goal.invariant-line
 invariant-line l =
-    let bound = length l.self.image.now + length l.self.changes.now in
+    let bound = length l.self.changes.now + 1 in
     leads_to_boot (bound - l.counter) (slots_of l.self) l.place ≡ leads_to_boot bound (slots_of l.self) l.fn.parent
