@@ -11,7 +11,7 @@ use tool::command;
 const ROOM: usize = 50_000;
 
 /// At each interrupt 3 the part prints a byte, and acknowledges it. From wait to wait it takes eleven instructions.
-const SYSTEM: &str = "bell b
+pub(crate) const SYSTEM: &str = "bell b
 part p 1
 waits b line 3
 code

@@ -1,28 +1,15 @@
 //! How soon systems deal with interrupts, as the program for makers says, and refuses.
 
-use crate::commands::{answer_to, answers};
+use crate::commands::{SYSTEM, answer_to, answers};
+use std::alloc::Global;
 use std::process::Abort;
 use std::test::Fail;
 use test_sessions::{put_file, take_files};
 
-/// At each interrupt 3 the part prints a byte, and acknowledges it. From wait to wait it takes eleven instructions.
-const SYSTEM: &str = "bell b
-part p 1
-waits b line 3 every 100
-code
-again: addi x10 x0 b
-addi x17 x0 5
-ecall
-addi x10 x0 65
-addi x17 x0 9
-ecall
-addi x10 x0 b.line3
-lui x11 18
-addi x17 x0 3
-ecall
-jal x0 again
-end
-";
+/// The system of `commands`, whose line comes once in a hundred instructions.
+fn system(alloc: Global) -> Result<String, Fail> {
+    Ok(SYSTEM.replace(alloc, "line 3\n", "line 3 every 100\n")?)
+}
 
 /// At the start its budget is left, and one interrupt may come: twice eleven.
 const SAID: &str = "priority 1 and above: at most 22 instructions on end (p)
@@ -33,7 +20,7 @@ status 0
 
 #[test]
 fn rates_are_those_of_words_or_of_the_description(rt: HostRuntime) -> Result<(), Fail> {
-    put_file(&rt, "soon.sys", SYSTEM.as_bytes())?;
+    put_file(&rt, "soon.sys", system(rt.alloc())?.as_bytes())?;
     answers(&rt, "response @soon.sys", SAID)?;
     let twice = answer_to(&rt, "response @soon.sys b_line3 2 1000")?;
     assert!(&rt;
@@ -60,7 +47,7 @@ fn rates_are_those_of_words_or_of_the_description(rt: HostRuntime) -> Result<(),
 
 #[test]
 fn events_that_break_a_rate_are_noted(rt: HostRuntime) -> Result<(), Fail> {
-    put_file(&rt, "soon.sys", SYSTEM.as_bytes())?;
+    put_file(&rt, "soon.sys", system(rt.alloc())?.as_bytes())?;
     put_file(
         &rt,
         "soon.events",
@@ -81,12 +68,13 @@ fn events_that_break_a_rate_are_noted(rt: HostRuntime) -> Result<(), Fail> {
 
 #[test]
 fn what_is_not_kept_is_refused(rt: HostRuntime) -> Result<(), Fail> {
-    let system = SYSTEM.replace(rt.alloc(), "code\n", "within 11\ncode\n")?;
-    put_file(&rt, "kept.sys", system.as_bytes())?;
+    let asking = system(rt.alloc())?;
+    let kept = asking.replace(rt.alloc(), "code\n", "within 11\ncode\n")?;
+    put_file(&rt, "kept.sys", kept.as_bytes())?;
     let want = "p budget 11\np rests within 11 instructions of line 3, of 11\nstatus 0\n";
     answers(&rt, "make @kept.sys @kept.img", want)?;
-    let system = SYSTEM.replace(rt.alloc(), "code\n", "within 10\ncode\n")?;
-    put_file(&rt, "kept.sys", system.as_bytes())?;
+    let broken = asking.replace(rt.alloc(), "code\n", "within 10\ncode\n")?;
+    put_file(&rt, "kept.sys", broken.as_bytes())?;
     let refused =
         "kept.sys:4: p rests within 11 instructions of line 3, not within 10\n        11  p, from the bell on\n";
     let said = answer_to(&rt, "make @kept.sys @kept.img")?;

@@ -7,7 +7,7 @@ use responses::{Bound, Rate, Response, respond, responded};
 use std::alloc::Global;
 use std::process::Abort;
 use std::test::Fail;
-use test_sessions::{CHAIN, CONTROLLER, EQUAL};
+use test_sessions::{CHAIN, CONTROLLER, EQUAL, SERVER, lines_before};
 use verify::verify;
 
 /// A thread below rings the one that waits for a line.
@@ -58,117 +58,22 @@ jal x0 start
 end
 ";
 
-/// A thread with a line calls another one, which answers.
-const SERVER: &str = "memory 18 7
-untyped u 0x20000 17
-object ca u frame
-object va u root
-object pa u table
-object cb u frame
-object vb u root
-object pb u table
-object ta u tcb
-object tb u tcb
-object sa u cnode 4
-object sb u cnode 4
-object b1 u notification
-object door u endpoint
-irq one 1 b1 1
-cap sa 1 b1 2 0
-cap sa 2 one 0 0
-cap sa 3 door 9 1
-table va 0 pa
-map va 0x1000 ca 4
-cap sb 1 door 2 0
-table vb 0 pb
-map vb 0x1000 cb 4
-thread ta sa 28 va 100 9 0 start 0x1000
+/// The second thread of `SERVER` as one that never answers.
+const DEAF: &str = "thread tb sb 28 vb 110 4 0 start 0x1000
 measure 3
 start: addi x10 x0 1
 addi x17 x0 5
-ecall
-addi x17 x0 1
-lui x11 18
-addi x10 x0 2
-ecall
-addi x17 x0 1
-addi x11 x0 1
-addi x10 x0 3
 ecall
 jal x0 start
-end
-thread tb sb 28 vb 110 16 0 start 0x1000
-measure 3
-start: addi x10 x0 1
-addi x17 x0 5
-ecall
-measure 15
-serve: addi x9 x9 1
-addi x9 x9 1
-addi x9 x9 1
-addi x9 x9 1
-addi x9 x9 1
-addi x9 x9 1
-addi x9 x9 1
-addi x9 x9 1
-addi x9 x9 1
-addi x9 x9 1
-addi x9 x9 1
-addi x17 x0 2
-addi x11 x0 1
-addi x10 x0 1
-ecall
-jal x0 serve
 end
 ";
 
 /// A thread with a line calls another one, which never answers.
-const DEAF: &str = "memory 18 7
-untyped u 0x20000 17
-object ca u frame
-object va u root
-object pa u table
-object cb u frame
-object vb u root
-object pb u table
-object ta u tcb
-object tb u tcb
-object sa u cnode 4
-object sb u cnode 4
-object b1 u notification
-object door u endpoint
-irq one 1 b1 1
-cap sa 1 b1 2 0
-cap sa 2 one 0 0
-cap sa 3 door 9 1
-table va 0 pa
-map va 0x1000 ca 4
-cap sb 1 door 2 0
-table vb 0 pb
-map vb 0x1000 cb 4
-thread ta sa 28 va 100 9 0 start 0x1000
-measure 3
-start: addi x10 x0 1
-addi x17 x0 5
-ecall
-addi x17 x0 1
-lui x11 18
-addi x10 x0 2
-ecall
-addi x17 x0 1
-addi x11 x0 1
-addi x10 x0 3
-ecall
-jal x0 start
-end
-thread tb sb 28 vb 110 4 0 start 0x1000
-measure 3
-start: addi x10 x0 1
-addi x17 x0 5
-ecall
-jal x0 start
-end
-";
+fn deaf(alloc: Global) -> Result<String, Fail> {
+    let mut text = lines_before(alloc, SERVER, 39)?;
+    text.push_str(DEAF)?;
+    Ok(text)
+}
 
 /// Two drivers, each with a line, call a filter above them.
 const GATEWAY: &str = "memory 18 7
@@ -382,7 +287,7 @@ fn shares_are_the_bound(rt: HostRuntime) -> Result<(), Fail> {
     assert!(rt; add_up(rt.alloc(), EQUAL)?);
     assert!(rt; add_up(rt.alloc(), CHAIN)?);
     assert!(rt; add_up(rt.alloc(), SERVER)?);
-    assert!(rt; add_up(rt.alloc(), DEAF)?);
+    assert!(rt; add_up(rt.alloc(), deaf(rt.alloc())?.as_str())?);
     assert!(rt; add_up(rt.alloc(), GATEWAY)?);
     assert!(rt; add_up(rt.alloc(), CONTROLLER)?);
     Ok(())
@@ -428,8 +333,10 @@ fn drivers_rest_with_their_filter(rt: HostRuntime) -> Result<(), Fail> {
 // for its answer for ever, so its line is not dealt with: at rest 22 stand for a word, 22 for the line, 13 for the client; and 22 come with one interrupt.
 #[test]
 fn who_is_not_answered_is_not_settled(rt: HostRuntime) -> Result<(), Fail> {
-    assert_eq!(rt; rests_within(rt.alloc(), DEAF, 100, 1, 200)?, 79);
-    assert_eq!(rt; settled_and_tended(rt.alloc(), DEAF, 100, 1)?, (1, 0));
+    let deaf = deaf(rt.alloc())?;
+    let text = deaf.as_str();
+    assert_eq!(rt; rests_within(rt.alloc(), text, 100, 1, 200)?, 79);
+    assert_eq!(rt; settled_and_tended(rt.alloc(), text, 100, 1)?, (1, 0));
     Ok(())
 }
 

@@ -106,6 +106,70 @@ jal x0 start
 end
 ";
 
+/// A thread with a line calls another one, which answers.
+pub const SERVER: &str = "memory 18 7
+untyped u 0x20000 17
+object ca u frame
+object va u root
+object pa u table
+object cb u frame
+object vb u root
+object pb u table
+object ta u tcb
+object tb u tcb
+object sa u cnode 4
+object sb u cnode 4
+object b1 u notification
+object door u endpoint
+irq one 1 b1 1
+cap sa 1 b1 2 0
+cap sa 2 one 0 0
+cap sa 3 door 9 1
+table va 0 pa
+map va 0x1000 ca 4
+cap sb 1 door 2 0
+table vb 0 pb
+map vb 0x1000 cb 4
+thread ta sa 28 va 100 9 0 start 0x1000
+measure 3
+start: addi x10 x0 1
+addi x17 x0 5
+ecall
+addi x17 x0 1
+lui x11 18
+addi x10 x0 2
+ecall
+addi x17 x0 1
+addi x11 x0 1
+addi x10 x0 3
+ecall
+jal x0 start
+end
+thread tb sb 28 vb 110 16 0 start 0x1000
+measure 3
+start: addi x10 x0 1
+addi x17 x0 5
+ecall
+measure 15
+serve: addi x9 x9 1
+addi x9 x9 1
+addi x9 x9 1
+addi x9 x9 1
+addi x9 x9 1
+addi x9 x9 1
+addi x9 x9 1
+addi x9 x9 1
+addi x9 x9 1
+addi x9 x9 1
+addi x9 x9 1
+addi x17 x0 2
+addi x11 x0 1
+addi x10 x0 1
+ecall
+jal x0 serve
+end
+";
+
 /// The gallery's controller: a sensor, an output, and a watchdog, each with a line.
 pub const CONTROLLER: &str = "memory 17 6
 untyped u 0x10000 16

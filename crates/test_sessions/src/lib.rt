@@ -8,6 +8,6 @@ mod printed;
 mod texts;
 
 pub use files::{name_of, put_file, take_files};
-pub use levels::{CHAIN, CONTROLLER, EQUAL};
+pub use levels::{CHAIN, CONTROLLER, EQUAL, SERVER};
 pub use printed::{Printed, words_of};
 pub use texts::{SOLO, lines_before, number, put_line, with_line};

@@ -1,25 +1,10 @@
 //! The samples and the systems of the gallery, without their certificates: they come back with the budgets that were worked by
 //! hand.
 
-use crate::certification::rows::certified_with;
+use crate::certification::rows::{certified_with, text_with, uncertified};
 use std::process::Abort;
 use std::test::Fail;
-
-/// The text of `bell`: a thread that waits.
-const BELL: &str =
-    "memory 16 4\nuntyped u 0x8000 15\nobject code u frame\nobject vs u root\nobject pt u table\n\
-    object data u frame\nobject main u tcb\nobject cs u cnode 4\nobject bell u notification\nirq line 3 bell 1\n\
-    cap cs 1 bell 2 0\ncap cs 2 line 0 0\ntable vs 0 pt\nmap vs 0x1000 code 4\nmap vs 0x2000 data 3\n\
-    thread main cs 28 vs 100 auto 0 again 0x1000\nagain: addi x10 x0 1\naddi x17 x0 5\necall\njal x0 again\n\
-    end\n";
-
-/// The text of `solo`: a thread that counts down from ten, and then waits.
-const SOLO: &str =
-    "memory 16 4\nuntyped u 0x8000 15\nobject code u frame\nobject vs u root\nobject pt u table\n\
-    object data u frame\nobject main u tcb\nobject cs u cnode 4\nobject bell u notification\nirq line 3 bell 1\n\
-    cap cs 1 bell 2 0\ncap cs 2 line 0 0\ntable vs 0 pt\nmap vs 0x1000 code 4\nmap vs 0x2000 data 3\n\
-    thread main cs 28 vs 100 auto 0 start 0x1000\nstart: addi x5 x0 10\nloop: addi x5 x5 -1\nbne x5 x0 loop\n\
-    again: addi x10 x0 1\naddi x17 x0 5\necall\njal x0 again\nend\n";
+use test_sessions::{CONTROLLER, SOLO};
 
 /// The text of `worker`: a frame is made, mapped, written and revoked, again and again.
 const WORKER: &str =
@@ -46,35 +31,6 @@ const CLIENT_SERVER: &str =
     addi x12 x5 0\naddi x17 x0 1\necall\naddi x5 x12 0\naddi x10 x12 0\naddi x17 x0 9\necall\njal x0 again\n\
     end\nthread server cs2 28 vs2 101 auto 0 start 0x1000\nstart: addi x10 x0 1\naddi x17 x0 5\necall\n\
     answer: addi x12 x12 1\naddi x10 x0 1\naddi x11 x0 1\naddi x17 x0 2\necall\njal x0 answer\nend\n";
-
-/// The text of `controller`: a timer, a sensor, an output and a watchdog.
-const CONTROLLER: &str =
-    "memory 17 6\nuntyped u 0x10000 16\nobject control_code u frame\nobject control_space u root\n\
-    object control_table u table\nobject sensor_code u frame\nobject sensor_space u root\n\
-    object sensor_table u table\nobject watchdog_code u frame\nobject watchdog_space u root\n\
-    object watchdog_table u table\nobject sample u frame\nobject output u frame 1\nobject status u frame\n\
-    object control u tcb\nobject sensor u tcb\nobject watchdog u tcb\nobject control_slots u cnode 4\n\
-    object sensor_slots u cnode 4\nobject watchdog_slots u cnode 4\nobject beat u notification\n\
-    object ready u notification\nobject check u notification\nobject probe u frame 1\nirq control_line 1 beat 1\n\
-    irq watchdog_line 2 check 1\nirq sensor_line 3 ready 1\ncap control_slots 1 beat 2 0\n\
-    cap control_slots 2 control_line 0 0\ncap sensor_slots 1 ready 2 0\ncap sensor_slots 2 sensor_line 0 0\n\
-    cap watchdog_slots 1 check 2 0\ncap watchdog_slots 2 watchdog_line 0 0\n\
-    table control_space 0 control_table\ntable sensor_space 0 sensor_table\n\
-    table watchdog_space 0 watchdog_table\nmap control_space 0x1000 control_code 4\n\
-    map control_space 0x3000 sample 2\nmap control_space 0x4000 output 3\nmap control_space 0x5000 status 3\n\
-    map sensor_space 0x1000 sensor_code 4\nmap sensor_space 0x3000 sample 3\nmap sensor_space 0x6000 probe 2\n\
-    map watchdog_space 0x1000 watchdog_code 4\nmap watchdog_space 0x5000 status 2\n\
-    thread control control_slots 28 control_space 100 auto 0 wait 0x1000\nwait: addi x10 x0 1\naddi x17 x0 5\n\
-    ecall\nlui x5 3\nlw x6 0(x5)\naddi x7 x0 68\nbgeu x6 x7 not_low\naddi x6 x7 0\nnot_low: addi x7 x0 132\n\
-    bgeu x7 x6 not_high\naddi x6 x7 0\nnot_high: slli x6 x6 1\naddi x7 x0 328\nsub x6 x7 x6\nlui x5 4\n\
-    sw x6 0(x5)\naddi x10 x6 0\naddi x17 x0 9\necall\nlui x5 5\naddi x20 x20 1\nsw x20 0(x5)\naddi x10 x0 2\n\
-    lui x11 0x12\naddi x17 x0 3\necall\njal x0 wait\nend\n\
-    thread sensor sensor_slots 28 sensor_space 110 auto 0 wait 0x1000\nwait: addi x10 x0 1\naddi x17 x0 5\n\
-    ecall\nlui x5 6\nlw x6 0(x5)\nlui x5 3\nsw x6 0(x5)\naddi x10 x0 2\nlui x11 0x12\n\
-    addi x17 x0 3\necall\njal x0 wait\nend\n\
-    thread watchdog watchdog_slots 28 watchdog_space 120 auto 0 wait 0x1000\nwait: addi x10 x0 1\n\
-    addi x17 x0 5\necall\nlui x5 5\nlw x6 0(x5)\nbne x6 x20 moved\naddi x10 x0 0x21\naddi x17 x0 9\necall\n\
-    moved: addi x20 x6 0\naddi x10 x0 2\nlui x11 0x12\naddi x17 x0 3\necall\njal x0 wait\nend\n";
 
 /// The text of `gateway`: two drivers, a filter and a printer.
 const GATEWAY: &str =
@@ -140,12 +96,14 @@ const KEY_STORE: &str =
 
 #[test]
 fn a_thread_that_waits_is_certified(rt: HostRuntime) -> Result<(), Fail> {
-    certified_with(&rt, BELL, "main budget 4\n")
+    let bell = text_with(&rt, "")?.replace(rt.alloc(), " start ", " wait ")?;
+    certified_with(&rt, bell.as_str(), "main budget 4\n")
 }
 
 #[test]
 fn a_thread_that_counts_down_is_certified(rt: HostRuntime) -> Result<(), Fail> {
-    certified_with(&rt, SOLO, "main budget 24\n")
+    let solo = uncertified(rt.alloc(), SOLO)?;
+    certified_with(&rt, solo.as_str(), "main budget 24\n")
 }
 
 #[test]
@@ -160,9 +118,10 @@ fn a_client_and_a_server_is_certified(rt: HostRuntime) -> Result<(), Fail> {
 
 #[test]
 fn a_controller_is_certified(rt: HostRuntime) -> Result<(), Fail> {
+    let controller = uncertified(rt.alloc(), CONTROLLER)?;
     certified_with(
         &rt,
-        CONTROLLER,
+        controller.as_str(),
         "control budget 27\nsensor budget 12\nwatchdog budget 15\n",
     )
 }
