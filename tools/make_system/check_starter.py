@@ -82,14 +82,15 @@ def cases() -> list[Case]:
         def with_system(name: str) -> tuple[str, ...]:
             return (word, *(name if it == "SYSTEM" else it for it in files))
 
-        found += [Case(with_system(name)) for name in ("plain and blanks.sys", "c and blanks.sys")]
-        found += [Case(with_system("-"), PLAIN), Case((*with_system("c.sys"), *["more"] * 1000))]
-    for word in ("make", "chart", "cover"):
-        found += [Case((word,)), Case((word, "c.sys", "c.sys", "--help")), Case((word, "missing.sys", "missing.sys"))]
+        found += [Case(with_system("plain and blanks.sys")), Case(with_system("c and blanks.sys")), Case(with_system("-"), PLAIN)]
+    for word in ("make", "chart", "cover", "alone", "response"):
+        found += [Case((word,)), Case((word, "c.sys", "c.sys", "--help")), Case((word, *["c.sys"] * 1001))]
+        found.append(Case((word, "missing.sys", "missing.sys")))
     for name in [*FILES, *BYTES, "folder"]:
         may_start = name in BYTES
         found += [Case(("explain", name), may_start=may_start)]
-    found += [Case(("draw", "-"), content, may_start=name == "returns.sys") for name, content in FILES.items()]
+    for name in ("empty", "c.text", "commas.sys", "lines.sys", "returns.sys"):
+        found.append(Case(("draw", "-"), FILES[name], may_start=name == "returns.sys"))
     found += [
         Case(("make", "plain.sys", "-")),
         Case(("make", "-D", "name=1", "c.sys", "made.img", "-Dother=2")),
