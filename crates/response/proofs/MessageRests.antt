@@ -1,6 +1,6 @@
--- After a system call of a thread below denied more work is there than at rest, and what it rings at a notification at which a thread of the level rests.
+-- After a system call of a thread below denied more work is there than at rest, and what it brings to where a thread of the level rests that takes it.
 use Rattle.std.proofs.Common.{ℕ, zero, suc, ◌≡◌, ◌≢◌, ◌∙◌, ◌⊎◌, ◌==◌, ◌&&◌, ◌-◌, ◌+◌, ◌<◌, ◌≤◌, inl, inr, Bool, true, false, if◌then◌else◌}
-use Rattle.std.proofs.Common.{Option}
+use Rattle.std.proofs.Common.{Option, nat_le}
 use Rattle.std.proofs.Common.{Some, None, All, List, [], ◌∷◌}
 use Rattle.std.proofs.Common.{refl, sym, ap, subst, arith}
 use Rattle.std.specs.Prelude.{Contains}
@@ -19,7 +19,8 @@ use Rattle.model.specs.Images.Described.{Numbered, described, numbered_threads}
 use Rattle.model.specs.Images.Image.{Image}
 use Rattle.model.specs.Kernel.Interrupts.{binding}
 use Rattle.model.specs.Kernel.Scheduling.{is_runnable}
-use Rattle.model.specs.Kernel.State.{AwaitsHandler, AwaitsReply, Blocked, CNodeObject, EndpointObject, FrameObject, Inactive, NotificationObject}
+use Rattle.model.specs.Kernel.State.{AwaitsHandler, AwaitsReply, Blocked, CNodeObject, EndpointObject, EndpointState, FrameObject, Inactive}
+use Rattle.model.specs.Kernel.State.{NotificationObject}
 use Rattle.model.specs.Kernel.State.{NotificationState, Object, PageTableObject, RootTableObject, Runnable, State, Status, ThreadObject, ThreadState}
 use Rattle.model.specs.Kernel.State.{notification_at}
 use Rattle.model.specs.Kernel.State.{thread_at}
@@ -34,95 +35,126 @@ use Rattle.response.specs.DealtWith.{Rests}
 use Rattle.response.specs.Laws.{WaitsToTake}
 use Rattle.response.specs.Left.{irq_lines, left, left_of_line, left_of_thread, left_of_word, line_price, point_now, total}
 use Rattle.response.specs.Levels.{is_of_level}
-use Rattle.response.specs.Owed.{OweAtRest, OweBelow, RingsFitWith, WaitsWhereAsked, at_rest_with, going_on, owed, owed_as, owed_awaiting, owed_of_thread}
-use Rattle.response.specs.Owed.{owes_at_most}
-use Rattle.response.specs.Owed.{work}
+use Rattle.response.specs.Owed.{IsLeftAtRest, OweBelow, StepsFitWith, WaitsWhereAsked, asked_there, at_rest_with, comes_to, going_on, owed, owed_as}
+use Rattle.response.specs.Owed.{owed_awaiting, owed_of_thread, owed_queued, owes_at_most, waiting_price, work}
 use Rattle.response.specs.Weights.{Pays, Price, Weights, price_of}
 use Rattle.response.proofs.AskedNow.{asked_now, may_wait}
+use Rattle.response.proofs.AskedSteps.{asked-same}
 use Rattle.response.proofs.AtBells.{there-is}
 use Rattle.response.proofs.Costs.{total-less}
+use Rattle.response.proofs.Doors.{sends-elsewhere, sent_to}
 use Rattle.response.proofs.Interrupts.{word-of}
 use Rattle.response.proofs.LevelCalls.{found-price, line-pays, lines-kept}
 use Rattle.response.proofs.NamedNow.{asks-so}
 use Rattle.response.proofs.OthersMoved.{answered, as_it_was, gave, owed-runs, reached_by, rests-left, rung-reached, share, takers_in, worth}
 use Rattle.response.proofs.OwnCalls.{pc_at}
-use Rattle.response.proofs.OwnMessages.{SendEnds, sent_awaits, sent_passed, sent_queued, sent_stopped}
+use Rattle.response.proofs.OwnMessages.{ReceiveEnds, SendEnds, TakeEnds, got_one, got_word, sent_awaits, sent_passed, sent_queued, sent_stopped, stays_on}
+use Rattle.response.proofs.OwnMessages.{stays_there}
+use Rattle.response.proofs.Passing.{or-then}
 use Rattle.response.proofs.ReachedPay.{moves-so, no_more, other-kept, never-none, reached-pay, rings, total-both, word-grown}
 use Rattle.response.proofs.Rises.{none-some, one-some, rung_cost}
 use Rattle.response.proofs.Rung.{pended, rung_by}
 use Rattle.response.proofs.Stage.{a-line, a-word}
 use Rattle.response.proofs.Sums.{changed-once, threads-once}
 use Rattle.response.proofs.TwoEntries.{falls-by}
-use Rattle.response.proofs.WaitingThreads.{owed-is, waits-at}
+use Rattle.response.proofs.WaitingThreads.{asks-there, owed-is, waits-at}
+
+pub runs-is : (status : Status) → is_runnable status ≡ true → status ≡ Runnable
+runs-is Runnable is = refl
+runs-is Inactive is = absurd (let clash : false ≡ true = is in cc)
+runs-is (Blocked queue) is = absurd (let clash : false ≡ true = is in cc)
+runs-is AwaitsReply is = absurd (let clash : false ≡ true = is in cc)
+runs-is AwaitsHandler is = absurd (let clash : false ≡ true = is in cc)
+
+-- who waits for an answer goes on with nothing, if it is below
+none-awaited : (asked : Asked) → owed_awaiting 0 asked ≡ 0
+none-awaited (Calls o) = refl
+none-awaited (SendsTo o) = refl
+none-awaited (Takes o) = refl
+none-awaited (Polls o) = refl
+none-awaited (Rings o) = refl
+none-awaited (Acknowledges number) = refl
+none-awaited (Accepts o replies) = refl
+none-awaited (Looks o) = refl
+none-awaited (Tries o) = refl
+none-awaited Answers = refl
+none-awaited Asks_nothing = refl
 
 -- ---- what is owed is at most what may be
 
-owed-less : (w : Weights) (level : Bool) (next most : ℕ) (asked : Asked) (status : Status) → owes_at_most w level next most asked ≡ true
-    → owed_as w next asked status ≤ most
-owed-less w level next most (SendsTo o) (Blocked queue) is = leb-true (price_of w o + next) most is
-owed-less w level next most (Calls o) (Blocked queue) is = leb-true (price_of w o + next) most is
-owed-less w level next most (Calls o) AwaitsReply is = let less = leb-true (price_of w o + next) most is in omega (arith, less)
-owed-less w level next most (SendsTo o) AwaitsReply is = omega arith
-owed-less w level next most (Takes o) (Blocked queue) is = omega arith
-owed-less w level next most (Takes o) AwaitsReply is = omega arith
-owed-less w level next most (Polls o) (Blocked queue) is = omega arith
-owed-less w level next most (Polls o) AwaitsReply is = omega arith
-owed-less w level next most (Rings o) (Blocked queue) is = omega arith
-owed-less w level next most (Rings o) AwaitsReply is = omega arith
-owed-less w level next most (Acknowledges number) (Blocked queue) is = omega arith
-owed-less w level next most (Acknowledges number) AwaitsReply is = omega arith
-owed-less w level next most (Accepts o replies) (Blocked queue) is = omega arith
-owed-less w level next most (Accepts o replies) AwaitsReply is = omega arith
-owed-less w level next most (Looks o) (Blocked queue) is = omega arith
-owed-less w level next most (Looks o) AwaitsReply is = omega arith
-owed-less w level next most (Tries o) (Blocked queue) is = omega arith
-owed-less w level next most (Tries o) AwaitsReply is = omega arith
-owed-less w level next most Answers (Blocked queue) is = omega arith
-owed-less w level next most Answers AwaitsReply is = omega arith
-owed-less w level next most Asks_nothing (Blocked queue) is = omega arith
-owed-less w level next most Asks_nothing AwaitsReply is = omega arith
-owed-less w level next most asked Inactive is = omega arith
-owed-less w level next most asked Runnable is = omega arith
-owed-less w level next most asked AwaitsHandler is = omega arith
+-- a message that waits is at no endpoint where messages are taken at once
+abbrev WaitsElsewhere : (ℕ → Bool) → Asked → Status → Type 0
+WaitsElsewhere is_taken asked status = (queue : ℕ) → status ≡ Blocked queue → (o : ℕ) → sent_to asked ≡ Some o → is_taken o ≡ false
 
--- what a thread owes is at most what it may wait with at each of its points
-module _ (laws : Laws) (bytes : List ℕ) (image : Image) (accepted : IsAccepted bytes image) (priority : ℕ) (w : Weights) (s : State) (labels : List Label)
-    (all : AllStand image s labels) (u : Numbered) (among : Contains (numbered_threads image) u) (most : ℕ)
+owed-less : (w : Weights) (is_taken : ℕ → Bool) (level : Bool) (next most : ℕ) (asked : Asked) (status : Status) → WaitsElsewhere is_taken asked status
+    → owes_at_most w is_taken level next most asked ≡ true → owed_as w next asked status ≤ most
+owed-less w is_taken level next most (SendsTo o) (Blocked queue) waits_off is =
+    leb-true (price_of w o + next) most (or-then (is_taken o) (nat_le (price_of w o + next) most) (waits_off queue refl o refl) is)
+owed-less w is_taken level next most (Calls o) (Blocked queue) waits_off is =
+    let less = leb-true (waiting_price w is_taken o + next) most is in
+    let price : waiting_price w is_taken o ≡ price_of w o = ap (λ (b : Bool). if b then 0 else price_of w o) (waits_off queue refl o refl) in
+    omega (arith, less, price)
+owed-less w is_taken level next most (Calls o) AwaitsReply waits_off is =
+    let less = leb-true (waiting_price w is_taken o + next) most is in omega (arith, less)
+owed-less w is_taken level next most (SendsTo o) AwaitsReply waits_off is = omega arith
+owed-less w is_taken level next most (Takes o) (Blocked queue) waits_off is = omega arith
+owed-less w is_taken level next most (Takes o) AwaitsReply waits_off is = omega arith
+owed-less w is_taken level next most (Polls o) (Blocked queue) waits_off is = omega arith
+owed-less w is_taken level next most (Polls o) AwaitsReply waits_off is = omega arith
+owed-less w is_taken level next most (Rings o) (Blocked queue) waits_off is = omega arith
+owed-less w is_taken level next most (Rings o) AwaitsReply waits_off is = omega arith
+owed-less w is_taken level next most (Acknowledges number) (Blocked queue) waits_off is = omega arith
+owed-less w is_taken level next most (Acknowledges number) AwaitsReply waits_off is = omega arith
+owed-less w is_taken level next most (Accepts o replies) (Blocked queue) waits_off is = omega arith
+owed-less w is_taken level next most (Accepts o replies) AwaitsReply waits_off is = omega arith
+owed-less w is_taken level next most (Looks o) (Blocked queue) waits_off is = omega arith
+owed-less w is_taken level next most (Looks o) AwaitsReply waits_off is = omega arith
+owed-less w is_taken level next most (Tries o) (Blocked queue) waits_off is = omega arith
+owed-less w is_taken level next most (Tries o) AwaitsReply waits_off is = omega arith
+owed-less w is_taken level next most Answers (Blocked queue) waits_off is = omega arith
+owed-less w is_taken level next most Answers AwaitsReply waits_off is = omega arith
+owed-less w is_taken level next most Asks_nothing (Blocked queue) waits_off is = omega arith
+owed-less w is_taken level next most Asks_nothing AwaitsReply waits_off is = omega arith
+owed-less w is_taken level next most asked Inactive waits_off is = omega arith
+owed-less w is_taken level next most asked Runnable waits_off is = omega arith
+owed-less w is_taken level next most asked AwaitsHandler waits_off is = omega arith
+
+-- what a thread owes is at most what it may wait with at each of its points, where nobody waits to send where messages are taken at once
+module _ (laws : Laws) (bytes : List ℕ) (image : Image) (accepted : IsAccepted bytes image) (priority : ℕ) (w : Weights) (is_taken : ℕ → Bool) (s : State)
+    (labels : List Label) (all : AllStand image s labels)
+    (nobody : (o : ℕ) (e : EndpointState) → is_taken o ≡ true → s.objects o ≡ Some (EndpointObject e) → e.senders ≡ []) (u : Numbered)
+    (among : Contains (numbered_threads image) u) (asked_so : WaitsWhereAsked image u s) (most : ℕ)
     (owe : (point : ℕ) (state : PointState) → point < u.thread.header.words → noted image u point ≡ Known state
-    → owes_at_most w (is_of_level priority u) (going_on priority w u point) most (asked_at image u.thread point state) ≡ true) where
+    → owes_at_most w is_taken (is_of_level priority u) (going_on priority w u point) most (asked_at image u.thread point state) ≡ true) where
   by-status : (own : ThreadState) → s.objects (tcb_of image u) ≡ Some (ThreadObject own) → (b : Bool) → is_runnable own.status ≡ b
       → owed_of_thread image priority w s u ≤ most
   by-status own is false rests =
       let v = waits-at laws bytes image s labels accepted all u among own is rests in
       let e = owed-is laws bytes image s labels accepted all u among own v priority w in
-      let less = owed-less w (is_of_level priority u) (going_on priority w u v.point) most (asked_at image u.thread v.point v.state) own.status
+      let less = owed-less w is_taken (is_of_level priority u) (going_on priority w u v.point) most (asked_at image u.thread v.point v.state) own.status
+      (sends-elsewhere laws bytes image s labels accepted all u among asked_so is_taken nobody own v)
       (owe v.point v.state v.stands.inside v.stands.known) in
       omega (arith, e, less)
   by-status own is true runs_ =
-      let none = owed-runs image priority w s u (ap (λ (x : ThreadState). x.status) (at-place s (tcb_of image u) own is) ∙ run-is own.status runs_) in
+      let none = owed-runs image priority w s u (ap (λ (x : ThreadState). x.status) (at-place s (tcb_of image u) own is) ∙ runs-is own.status runs_) in
       omega (arith, none)
-    where
-      run-is : (status : Status) → is_runnable status ≡ true → status ≡ Runnable
-      run-is Runnable _ = refl
-      run-is Inactive denied = absurd (let clash : false ≡ true = denied in cc)
-      run-is (Blocked queue) denied = absurd (let clash : false ≡ true = denied in cc)
-      run-is AwaitsReply denied = absurd (let clash : false ≡ true = denied in cc)
-      run-is AwaitsHandler denied = absurd (let clash : false ≡ true = denied in cc)
 
   pub owes-less : owed_of_thread image priority w s u ≤ most
   owes-less = let own = there-is image u s labels (all.stand u among) in by-status own.0 own.1 (is_runnable own.0.status) refl
 
--- one below the level owes that whenever it waits
-pub below-owes : (laws : Laws) (bytes : List ℕ) (image : Image) (accepted : IsAccepted bytes image) (priority : ℕ) (w : Weights) (owed_most : ℕ → ℕ)
-    → OweBelow image priority w owed_most → (s : State) (labels : List Label) → AllStand image s labels → (u : Numbered) → Contains (numbered_threads image) u
-    → is_of_level priority u ≡ false → owed_of_thread image priority w s u ≤ owed_most u.number
-below-owes laws bytes image accepted priority w owed_most owe s labels all u among below =
-    owes-less laws bytes image accepted priority w s labels all u among (owed_most u.number)
+-- so does one below the level
+pub below-owes : (laws : Laws) (bytes : List ℕ) (image : Image) (accepted : IsAccepted bytes image) (priority : ℕ) (w : Weights) (is_taken : ℕ → Bool)
+    (owed_most : ℕ → ℕ) → OweBelow image priority w is_taken owed_most → (s : State) (labels : List Label) → AllStand image s labels
+    → ((o : ℕ) (e : EndpointState) → is_taken o ≡ true → s.objects o ≡ Some (EndpointObject e) → e.senders ≡ []) → (u : Numbered)
+    → Contains (numbered_threads image) u → WaitsWhereAsked image u s → is_of_level priority u ≡ false
+    → owed_of_thread image priority w s u ≤ owed_most u.number
+below-owes laws bytes image accepted priority w is_taken owed_most owe s labels all nobody u among asked_so below =
+    owes-less laws bytes image accepted priority w is_taken s labels all nobody u among asked_so (owed_most u.number)
     (λ point state inside known.
-    subst (λ (b : Bool). owes_at_most w b (going_on priority w u point) (owed_most u.number) (asked_at image u.thread point state) ≡ true) (sym below)
+    subst (λ (b : Bool). owes_at_most w is_taken b (going_on priority w u point) (owed_most u.number) (asked_at image u.thread point state) ≡ true) (sym below)
     (owe u point state among below inside known))
 
--- so all do
+-- so do all
 pub owed-rests : (image : Image) (priority : ℕ) (w : Weights) (owed_most : ℕ → ℕ) (s : State)
     → ((u : Numbered) → Contains (numbered_threads image) u → owed_of_thread image priority w s u ≤ owed_most u.number)
     → owed image priority w s ≤ total (λ (t : Numbered). owed_most t.number) (numbered_threads image)
@@ -130,16 +162,20 @@ unfolding owed
 owed-rests image priority w owed_most s each =
     total-less (owed_of_thread image priority w s) (λ (t : Numbered). owed_most t.number) (numbered_threads image) each
 
-pub owes-so : (laws : Laws) (bytes : List ℕ) (image : Image) (accepted : IsAccepted bytes image) (priority : ℕ) (w : Weights) (owed_most : ℕ → ℕ)
-    → OweBelow image priority w owed_most → OweAtRest image priority w owed_most → (events : List Event) → All (KeepsDevices image) events
-    → AllStand image (state_after (described image) events) (trace (described image) events) → Rests image priority (state_after (described image) events)
+pub owes-so : (laws : Laws) (bytes : List ℕ) (image : Image) (accepted : IsAccepted bytes image) (priority : ℕ) (w : Weights) (is_taken is_open : ℕ → Bool)
+    (owed_most : ℕ → ℕ) → OweBelow image priority w is_taken owed_most → IsLeftAtRest image priority w is_taken is_open owed_most → (events : List Event)
+    → All (KeepsDevices image) events → AllStand image (state_after (described image) events) (trace (described image) events)
+    → ((u : Numbered) → Contains (numbered_threads image) u → WaitsWhereAsked image u (state_after (described image) events))
+    → Rests image priority (state_after (described image) events)
     → owed image priority w (state_after (described image) events) ≤ total (λ (t : Numbered). owed_most t.number) (numbered_threads image)
-owes-so laws bytes image accepted priority w owed_most owe owe_at_rest events devices all rests =
+owes-so laws bytes image accepted priority w is_taken is_open owed_most owe quiet events devices all where_asked rests =
     let s = state_after (described image) events in
     owed-rests image priority w owed_most s (λ u among.
     elim (is_of_level priority u) as (λ b. is_of_level priority u ≡ b → owed_of_thread image priority w s u ≤ owed_most u.number) [
-      | true ↦ λ level. owe_at_rest events u devices among level rests
-      | false ↦ λ other. below-owes laws bytes image accepted priority w owed_most owe s (trace (described image) events) all u among other
+      | true ↦ λ level. quiet.owed events u devices among level rests
+      | false ↦ λ other.
+          below-owes laws bytes image accepted priority w is_taken owed_most owe s (trace (described image) events) all
+          (λ o e here at. quiet.messages events o e devices rests here at) u among (where_asked u among) other
     ] refl)
 
 -- a word stands nowhere where somebody waits for what comes
@@ -166,19 +202,21 @@ module _ (laws : Laws) (bytes : List ℕ) (image : Image) (accepted : IsAccepted
     (where_asked : (u : Numbered) → Contains (numbered_threads image) u → WaitsWhereAsked image u s)
     (counts : (thread : ℕ) → thread ≢ tcb_of image t → open_count thread later ≡ open_count thread labels)
     (bound : (number : ℕ) → number < 64 → binding after number ≡ binding s number)
-    (owed_most : ℕ → ℕ) (owe : OweBelow image priority w owed_most)
+    (is_taken : ℕ → Bool) (owed_most : ℕ → ℕ) (owe : OweBelow image priority w is_taken owed_most)
     (owes : (u : Numbered) → Contains (numbered_threads image) u → owed_of_thread image priority w s u ≤ owed_most u.number)
     (described_so : (number : ℕ) → Contains irq_lines number → binding s number ≡ binding (described image) number)
     (below : is_of_level priority t ≡ false)
     (rests : (u : Numbered) → Contains (numbered_threads image) u → is_of_level priority u ≡ true
-    → is_runnable (thread_at s (tcb_of image u)).status ≡ true → ⊥) (is_taken : ℕ → Bool)
+    → is_runnable (thread_at s (tcb_of image u)).status ≡ true → ⊥)
     (taken : (queue : ℕ) (n : NotificationState) → is_taken queue ≡ true → s.objects queue ≡ Some (NotificationObject n) → n.word ≡ 0)
     (is_open : ℕ → Bool)
     (silent : (number : ℕ) → Contains irq_lines number → is_open number ≡ true → s.pending number ≡ false)
     (own : ThreadState) (point : ℕ) (state : PointState) (answer : AfterCall) (at : CallsAt image t s labels own point state answer)
     (count : may_wait (asked_now s (tcb_of image t)) ≡ false → open_count (tcb_of image t) later ≡ open_count (tcb_of image t) labels + 1)
     (sends : (e : ℕ) → asked_now s (tcb_of image t) ≡ SendsTo e → SendEnds s (tcb_of image t) e false after)
-    (calls : (e : ℕ) → asked_now s (tcb_of image t) ≡ Calls e → SendEnds s (tcb_of image t) e true after) where
+    (calls : (e : ℕ) → asked_now s (tcb_of image t) ≡ Calls e → SendEnds s (tcb_of image t) e true after)
+    (receives : (e : ℕ) (replies : Bool) → asked_now s (tcb_of image t) ≡ Accepts e replies → ReceiveEnds s (tcb_of image t) e after)
+    (waits_so : (o : ℕ) → asked_now s (tcb_of image t) ≡ Takes o → TakeEnds s (tcb_of image t) o after) where
   abbrev tcb : ℕ
   tcb = tcb_of image t
 
@@ -264,10 +302,17 @@ module _ (laws : Laws) (bytes : List ℕ) (image : Image) (accepted : IsAccepted
   own-left : left_of_thread image priority w after later t ≡ 0
   own-left = below-left after later t below
 
-  own-less : after_of t ≤ owing t
-  own-less =
+  -- where it is still there it owes by what it asked
+  own-there : pc_at after tcb ≡ pc_at s tcb → (status : Status) → (thread_at after tcb).status ≡ status → after_of t ≡ owed_as w 0 asked status
+  own-there same status is =
       let a = own-left in
-      let b = below-owes laws bytes image accepted priority w owed_most owe after later behind t listed below in
+      let next : going_on priority w t (point_now image after t) ≡ 0 =
+      ap (λ (b : Bool). if b then t.thread.header.budget + w.still t.number (point_now image after t + 1) else 0) below in
+      let asks : asked_there image after t ≡ asked =
+      asked-same image t s after same ∙ (asks-there image t s own point state at.there at.stands).1 ∙ asked-is in
+      let b : owed_of_thread image priority w after t ≡ owed_as w 0 asked status =
+      ap (λ (n : ℕ). owed_as w n (asked_there image after t) (thread_at after tcb).status) next
+      ∙ ap (λ (x : Asked). owed_as w 0 x (thread_at after tcb).status) asks ∙ ap (λ (x : Status). owed_as w 0 asked x) is in
       omega (arith, a, b)
 
   own-runs : (thread_at after tcb).status ≡ Runnable → after_of t ≡ 0
@@ -312,10 +357,12 @@ module _ (laws : Laws) (bytes : List ℕ) (image : Image) (accepted : IsAccepted
 
   -- ---- where nobody else gets more
 
-  quiet-rests : ((u : Numbered) (o : ℕ) (rest : List ℕ) → reached ≡ Some o → takers_in (s.objects o) ≡ tcb_of image u ∷ rest → ⊥)
-      → rung_by s after asked ≡ None → work image priority w after later ≤ at_rest_with image w is_taken is_open owed_most + 0
-  quiet-rests never none =
-      let threads = total-less after_of owing (numbered_threads image) each in
+  quiet-rests : (more : ℕ) → after_of t ≤ owing t + more
+      → ((u : Numbered) (o : ℕ) (rest : List ℕ) → reached ≡ Some o → takers_in (s.objects o) ≡ tcb_of image u ∷ rest → ⊥)
+      → rung_by s after asked ≡ None → work image priority w after later ≤ at_rest_with image w is_taken is_open owed_most + more
+  quiet-rests more mine never none =
+      let threads = changed-once (tcb_of image) owing after_of tcb more (numbered_threads image) elsewhere there
+      (threads-once image tcb (λ u v a b alike. laws.own_blocks bytes image u v accepted a b alike)) in
       let words = total-less word_after fixed w.prices (λ p _. elim
       (word-grown laws bytes image accepted priority w pays s after labels later all behind told t listed within takes where_asked counts p) [
         | no_more less ↦ (let b = word-before p in omega (arith, less, b))
@@ -323,25 +370,27 @@ module _ (laws : Laws) (bytes : List ℕ) (image : Image) (accepted : IsAccepted
       ]) in
       let a = lines in
       let b = lines-before in
-      by-parts 0 (omega (arith, threads, words, a, b))
+      by-parts more (omega (arith, threads, words, a, b))
     where
-      each : (u : Numbered) → Contains (numbered_threads image) u → after_of u ≤ owing u
-      each u among = elim (eqb_tells (tcb_of image u) tcb) [
-        | inl here ↦ subst (λ (x : Numbered). after_of x ≤ owing x) (sym (laws.own_blocks bytes image u t accepted among listed here.1)) own-less
-        | inr apart ↦ (
-            let less = other-kept laws bytes image accepted priority w pays s after labels later all behind told t listed within takes where_asked counts never
-            u among apart.1 in
-            let b = before-less u among in
-            omega (arith, less, b))
-      ]
+      elsewhere : (u : Numbered) → Contains (numbered_threads image) u → tcb_of image u ≢ tcb → after_of u ≤ owing u
+      elsewhere u among apart =
+          let less = other-kept laws bytes image accepted priority w pays s after labels later all behind told t listed within takes where_asked counts never
+          u among apart in
+          let b = before-less u among in
+          omega (arith, less, b)
+
+      there : (u : Numbered) → Contains (numbered_threads image) u → tcb_of image u ≡ tcb → after_of u ≤ owing u + more
+      there u among here =
+          subst (λ (x : Numbered). after_of x ≤ owing x + more) (sym (laws.own_blocks bytes image u t accepted among listed here)) mine
 
   no-rung : reached_by s after asked ≡ None → (o : Option ℕ) → rung_by s after asked ≡ o → rung_by s after asked ≡ None
   no-rung none None is = is
   no-rung none (Some o) is = absurd (none-some (sym none ∙ rung-reached s after asked o is))
 
-  none-rests : reached_by s after asked ≡ None → work image priority w after later ≤ at_rest_with image w is_taken is_open owed_most + 0
-  none-rests none =
-      quiet-rests (never-none laws bytes image accepted priority w pays s after labels later all behind told t listed within takes where_asked counts none)
+  none-rests : reached_by s after asked ≡ None → after_of t ≡ 0 → work image priority w after later ≤ at_rest_with image w is_taken is_open owed_most + 0
+  none-rests none mine =
+      quiet-rests 0 (omega (arith, mine))
+      (never-none laws bytes image accepted priority w pays s after labels later all behind told t listed within takes where_asked counts none)
       (no-rung none (rung_by s after asked) refl)
 
   -- ---- where it rings a line's notification
@@ -357,62 +406,64 @@ module _ (laws : Laws) (bytes : List ℕ) (image : Image) (accepted : IsAccepted
       let d = pay (own-runs (runs-on (ap may_wait is))) in
       by-parts 0 (omega (arith, line, a, b, c, d))
 
-  -- ---- where it sends
+  -- ---- where it waits for what comes
 
-  module _ (e : ℕ) (enough : price_of w e ≤ owed_most t.number) (reaches : reached_by s after asked ≡ Some e) where
-    passed-rests : after_of t ≡ 0 → work image priority w after later ≤ at_rest_with image w is_taken is_open owed_most + 0
-    passed-rests none =
-        let cost : rung_cost w (reached_by s after asked) ≡ price_of w e = ap (rung_cost w) reaches in
+  takes-none : (o : ℕ) → asked ≡ Takes o → TakeEnds s tcb o after → after_of t ≡ 0
+  takes-none o is (got_word runs_ pc) = own-runs (runs-is (thread_at after tcb).status runs_)
+  takes-none o is (stays_on status pc) = own-there pc (Blocked o) status ∙ ap (owed_queued w 0) is
+
+  accepts-none : (e : ℕ) (replies : Bool) → asked ≡ Accepts e replies → ReceiveEnds s tcb e after → after_of t ≡ 0
+  accepts-none e replies is (got_one first others status pc head gone right) = own-runs status
+  accepts-none e replies is (stays_there status pc nobody) = own-there pc (Blocked e) status ∙ ap (owed_queued w 0) is
+
+  -- ---- where it brings something
+
+  module _ (e : ℕ) (reaches : reached_by s after asked ≡ Some e) where
+    cost-is : rung_cost w (reached_by s after asked) ≡ price_of w e
+    cost-is = ap (rung_cost w) reaches
+
+    -- what comes is set going
+    reach-rests : after_of t ≡ 0 → work image priority w after later ≤ at_rest_with image w is_taken is_open owed_most + price_of w e
+    reach-rests none =
+        let a = threads-before in
+        let b = words-before in
+        let c = lines-before in
+        let d = pay none in
+        let l = lines in
+        let cost = cost-is in
+        by-parts (price_of w e) (omega (arith, cost, a, b, c, d, l))
+
+    -- and paid by what the thread may owe
+    passed-rests : price_of w e ≤ owed_most t.number → after_of t ≡ 0 → work image priority w after later ≤ at_rest_with image w is_taken is_open owed_most + 0
+    passed-rests enough none =
         let a = threads-spare (price_of w e) enough in
         let b = words-before in
         let c = lines-before in
         let d = pay none in
         let l = lines in
+        let cost = cost-is in
         by-parts 0 (omega (arith, cost, a, b, c, d, l))
 
-    by-ends : (is_caller : Bool) → (is_caller ≡ true → asked ≡ Calls e) → rung_by s after asked ≡ None → SendEnds s (tcb_of image t) e is_caller after
-        → work image priority w after later ≤ at_rest_with image w is_taken is_open owed_most + 0
-    by-ends is_caller called none (sent_passed status pc) = passed-rests (own-runs status)
-    by-ends is_caller called none (sent_queued status pc q is nobody) =
-        quiet-rests (λ u o rest so first.
-        let same : o ≡ e = one-some (sym so ∙ reaches) in
-        let clash : ◌≡◌ {A = List ℕ} [] (tcb_of image u ∷ rest) =
-        sym nobody ∙ sym (ap takers_in is) ∙ ap (λ (k : ℕ). takers_in (s.objects k)) (sym same) ∙ first in
-        absurd cc) none
-    by-ends is_caller called none (sent_awaits y rest status pc so first right) = passed-rests (awaits-none status pc)
-      where
-        awaits-none : (thread_at after tcb).status ≡ AwaitsReply → pc_at after tcb ≡ pc_at s tcb
-            → after_of t ≡ 0
-        awaits-none waits_now same =
-            let a = own-left in
-            let mine = there-is image t after later (behind.stand t listed) in
-            let mine-awaits : mine.0.status ≡ AwaitsReply =
-            sym (ap (λ (u : ThreadState). u.status) (at-place after tcb mine.0 mine.1)) ∙ waits_now in
-            let v = waits-at laws bytes image after later accepted behind t listed mine.0 mine.1 (ap is_runnable mine-awaits) in
-            let b = owed-is laws bytes image after later accepted behind t listed mine.0 v priority w in
-            let zero_ : owed_as w (going_on priority w t v.point) (asked_at image t.thread v.point v.state) mine.0.status ≡ 0 =
-            ap (λ (x : Status). owed_as w (going_on priority w t v.point) (asked_at image t.thread v.point v.state) x) mine-awaits
-            ∙ none-awaited (asked_at image t.thread v.point v.state) (going_on priority w t v.point)
-            (ap (λ (x : Bool). if x then t.thread.header.budget + w.still t.number (v.point + 1) else 0) below) in
-            omega (arith, a, b, zero_)
-          where
-            none-awaited : (a : Asked) (next : ℕ) → next ≡ 0 → owed_awaiting next a ≡ 0
-            none-awaited (Calls o) next none_ = none_
-            none-awaited (SendsTo o) next none_ = refl
-            none-awaited (Takes o) next none_ = refl
-            none-awaited (Polls o) next none_ = refl
-            none-awaited (Rings o) next none_ = refl
-            none-awaited (Acknowledges number) next none_ = refl
-            none-awaited (Accepts o replies) next none_ = refl
-            none-awaited (Looks o) next none_ = refl
-            none-awaited (Tries o) next none_ = refl
-            none-awaited Answers next none_ = refl
-            none-awaited Asks_nothing next none_ = refl
-    by-ends is_caller called none (sent_stopped status) = absurd (never-stops status)
+    -- or it waits with its message
+    module _ (owes_price : owed_queued w 0 asked ≡ price_of w e + 0) (unrung : rung_by s after asked ≡ None) (more : ℕ)
+        (enough : price_of w e ≤ owed_most t.number + more)
+        (passes : after_of t ≡ 0 → work image priority w after later ≤ at_rest_with image w is_taken is_open owed_most + more) where
+      by-ends : (is_caller : Bool) → SendEnds s tcb e is_caller after
+          → work image priority w after later ≤ at_rest_with image w is_taken is_open owed_most + more
+      by-ends is_caller (sent_passed status pc) = passes (own-runs status)
+      by-ends is_caller (sent_queued status pc q is nobody) =
+          quiet-rests more (let mine : after_of t ≡ owed_queued w 0 asked = own-there pc (Blocked e) status in omega (arith, mine, owes_price, enough))
+          (λ u o rest so first.
+          let same : o ≡ e = one-some (sym so ∙ reaches) in
+          let clash : ◌≡◌ {A = List ℕ} [] (tcb_of image u ∷ rest) =
+          sym nobody ∙ sym (ap takers_in is) ∙ ap (λ (k : ℕ). takers_in (s.objects k)) (sym same) ∙ first in
+          absurd cc) unrung
+      by-ends is_caller (sent_awaits y rest status pc so first right) = passes (own-there pc AwaitsReply status ∙ none-awaited asked)
+      by-ends is_caller (sent_stopped status) = absurd (never-stops status)
 
-  owes-here : (a : Asked) → asked ≡ a → owes_at_most w false (going_on priority w t point) (owed_most t.number) a ≡ true
+  owes-here : (a : Asked) → asked ≡ a → owes_at_most w is_taken false (going_on priority w t point) (owed_most t.number) a ≡ true
   owes-here a is =
-      subst (λ (x : Asked). owes_at_most w false (going_on priority w t point) (owed_most t.number) x ≡ true) (asked-is ∙ is)
+      subst (λ (x : Asked). owes_at_most w is_taken false (going_on priority w t point) (owed_most t.number) x ≡ true) (asked-is ∙ is)
       (owe t point state listed below at.stands.inside at.stands.known)
 
   -- ---- where it rings
@@ -431,14 +482,7 @@ module _ (laws : Laws) (bytes : List ℕ) (image : Image) (accepted : IsAccepted
     same-bell other so = same-place other (rung-reached s after asked other so)
 
     rung : work image priority w after later ≤ at_rest_with image w is_taken is_open owed_most + price_of w o
-    rung =
-        let cost : rung_cost w (reached_by s after asked) ≡ price_of w o = ap (rung_cost w) reaches-bell in
-        let a = threads-before in
-        let b = words-before in
-        let c = lines-before in
-        let d = pay own-none in
-        let e = lines in
-        by-parts (price_of w o) (omega (arith, cost, a, b, c, d, e))
+    rung = reach-rests o reaches-bell own-none
 
     -- a word at an object that is not taken out is counted already
     module _ (free : is_taken o ≡ false) where
@@ -453,7 +497,9 @@ module _ (laws : Laws) (bytes : List ℕ) (image : Image) (accepted : IsAccepted
       Fits = total after_of (numbered_threads image) + total word_after w.prices ≤ total owing (numbered_threads image) + total fixed w.prices
 
       own-fits : (u : Numbered) → Contains (numbered_threads image) u → tcb_of image u ≡ tcb → after_of u ≤ owing u
-      own-fits u among here = subst (λ (x : Numbered). after_of x ≤ owing x) (sym (laws.own_blocks bytes image u t accepted among listed here)) own-less
+      own-fits u among here =
+          let none = own-none in
+          subst (λ (x : Numbered). after_of x ≤ owing x) (sym (laws.own_blocks bytes image u t accepted among listed here)) (omega (arith, none))
 
       sets : takers_in (s.objects o) ≡ [] → Fits
       sets nobody =
@@ -556,7 +602,7 @@ module _ (laws : Laws) (bytes : List ℕ) (image : Image) (accepted : IsAccepted
 
   -- ---- whatever it asks
 
-  module _ (most : ℕ) (fit : RingsFitWith image priority w is_taken is_open owed_most most) (rest : at_rest_with image w is_taken is_open owed_most ≤ most)
+  module _ (most : ℕ) (fit : StepsFitWith image priority w is_taken is_open owed_most most) (rest : at_rest_with image w is_taken is_open owed_most ≤ most)
     where
       abbrev AtMost : Type 0
       AtMost = work image priority w after later ≤ most
@@ -564,31 +610,54 @@ module _ (laws : Laws) (bytes : List ℕ) (image : Image) (accepted : IsAccepted
       fits-so : work image priority w after later ≤ at_rest_with image w is_taken is_open owed_most + 0 → AtMost
       fits-so less = omega (arith, less, rest)
 
+      -- where a thread of the level rests that takes what comes
+      comes-so : (o : ℕ) → comes_to asked ≡ Some o → is_taken o ≡ true
+          → work image priority w after later ≤ at_rest_with image w is_taken is_open owed_most + price_of w o → AtMost
+      comes-so o is here less =
+          let fits = fit t point state o listed below at.stands.inside at.stands.known (ap comes_to asked-is ∙ is) here in omega (arith, less, fits)
+
+      either : (o : ℕ) → (is_taken o ≡ true → AtMost) → (is_taken o ≡ false → AtMost) → AtMost
+      either o here off = elim (is_taken o) as (λ b. is_taken o ≡ b → AtMost) [ true ↦ here | false ↦ off ] refl
+
       ring-call : (o : ℕ) → asked ≡ Rings o → AtMost
-      ring-call o is = elim (is_taken o) as (λ b. is_taken o ≡ b → AtMost) [
-        | true ↦ λ here.
-            let fits = fit t point state o listed below at.stands.inside at.stands.known (asked-is ∙ is) here in
-            let less = rung o is in
-            omega (arith, less, fits)
-        | false ↦ λ free. fits-so (counted o is free)
-      ] refl
+      ring-call o is = either o (λ here. comes-so o (ap comes_to is) here (rung o is)) (λ free. fits-so (counted o is free))
 
       try-call : (o : ℕ) → asked ≡ Tries o → AtMost
       try-call o is =
-          let less = leb-true (price_of w o) (owed_most t.number) (owes-here (Tries o) is) in
-          fits-so (passed-rests o less (ap (reached_by s after) is) (own-runs (runs-on (ap may_wait is))))
+          let reaches = ap (reached_by s after) is in
+          let none = own-runs (runs-on (ap may_wait is)) in
+          either o (λ here. comes-so o (ap comes_to is) here (reach-rests o reaches none)) (λ free.
+          let less = leb-true (price_of w o) (owed_most t.number)
+          (or-then (is_taken o) (nat_le (price_of w o) (owed_most t.number)) free (owes-here (Tries o) is)) in
+          fits-so (passed-rests o reaches less none))
 
       send-call : (e : ℕ) → asked ≡ SendsTo e → AtMost
       send-call e is =
-          fits-so (by-ends e
-          (let less = leb-true (price_of w e + going_on priority w t point) (owed_most t.number) (owes-here (SendsTo e) is) in omega (arith, less))
-          (ap (reached_by s after) is) false (λ denied. absurd (let clash : false ≡ true = denied in cc)) (ap (rung_by s after) is) (sends e is))
+          let reaches = ap (reached_by s after) is in
+          let next = going_on priority w t point in
+          either e (λ here. comes-so e (ap comes_to is) here (by-ends e reaches (ap (owed_queued w 0) is) (ap (rung_by s after) is) (price_of w e) (omega arith)
+          (reach-rests e reaches) false (sends e is)))
+          (λ free.
+          let less = leb-true (price_of w e + next) (owed_most t.number)
+          (or-then (is_taken e) (nat_le (price_of w e + next) (owed_most t.number)) free (owes-here (SendsTo e) is)) in
+          fits-so (by-ends e reaches (ap (owed_queued w 0) is) (ap (rung_by s after) is) 0 (omega (arith, less))
+          (passed-rests e reaches (omega (arith, less))) false (sends e is)))
 
       answer-call : (e : ℕ) → asked ≡ Calls e → AtMost
       answer-call e is =
-          fits-so (by-ends e
-          (let less = leb-true (price_of w e + going_on priority w t point) (owed_most t.number) (owes-here (Calls e) is) in omega (arith, less))
-          (ap (reached_by s after) is) true (λ _. is) (ap (rung_by s after) is) (calls e is))
+          let reaches = ap (reached_by s after) is in
+          let next = going_on priority w t point in
+          either e (λ here. comes-so e (ap comes_to is) here (by-ends e reaches (ap (owed_queued w 0) is) (ap (rung_by s after) is) (price_of w e) (omega arith)
+          (reach-rests e reaches) true (calls e is)))
+          (λ free.
+          let less = leb-true (waiting_price w is_taken e + next) (owed_most t.number) (owes-here (Calls e) is) in
+          let price : waiting_price w is_taken e ≡ price_of w e = ap (λ (b : Bool). if b then 0 else price_of w e) free in
+          fits-so (by-ends e reaches (ap (owed_queued w 0) is) (ap (rung_by s after) is) 0 (omega (arith, less, price))
+          (passed-rests e reaches (omega (arith, less, price))) true (calls e is)))
+
+      -- where nothing comes to anybody
+      free-call : (a : Asked) → asked ≡ a → may_wait a ≡ false → reached_by s after a ≡ None → AtMost
+      free-call a is free none = fits-so (none-rests (ap (reached_by s after) is ∙ none) (own-runs (runs-on (ap may_wait is ∙ free))))
 
       by-asked : (a : Asked) → asked ≡ a → AtMost
       by-asked (Rings o) is = ring-call o is
@@ -596,12 +665,12 @@ module _ (laws : Laws) (bytes : List ℕ) (image : Image) (accepted : IsAccepted
       by-asked (SendsTo e) is = send-call e is
       by-asked (Calls e) is = answer-call e is
       by-asked (Tries o) is = try-call o is
-      by-asked (Takes o) is = fits-so (none-rests (ap (reached_by s after) is))
-      by-asked (Polls o) is = fits-so (none-rests (ap (reached_by s after) is))
-      by-asked (Accepts o replies) is = fits-so (none-rests (ap (reached_by s after) is))
-      by-asked (Looks o) is = fits-so (none-rests (ap (reached_by s after) is))
-      by-asked Answers is = fits-so (none-rests (ap (reached_by s after) is))
-      by-asked Asks_nothing is = fits-so (none-rests (ap (reached_by s after) is))
+      by-asked (Takes o) is = fits-so (none-rests (ap (reached_by s after) is) (takes-none o is (waits_so o is)))
+      by-asked (Accepts o replies) is = fits-so (none-rests (ap (reached_by s after) is) (accepts-none o replies is (receives o replies is)))
+      by-asked (Polls o) is = free-call (Polls o) is refl refl
+      by-asked (Looks o) is = free-call (Looks o) is refl refl
+      by-asked Answers is = free-call Answers is refl refl
+      by-asked Asks_nothing is = free-call Asks_nothing is refl refl
 
       pub message-rests : work image priority w after later ≤ most
       message-rests = by-asked asked refl

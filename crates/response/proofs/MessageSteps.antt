@@ -1,4 +1,4 @@
--- A step of a thread below, whatever it makes: denied more work is there than at rest, and what it rings.
+-- A step of a thread below, whatever it makes: denied more work is there than at rest, and what it brings.
 use Rattle.std.proofs.Common.{ℕ, ◌≡◌, ◌≢◌, ◌∙◌, ◌⊎◌, ◌<◌, ◌≤◌, ◌++◌, Bool, true, false, Option, Some, None, List, [], ◌∷◌, refl, sym, ap, subst}
 use Rattle.std.specs.Prelude.{Contains}
 use Rattle.model.specs.declared.events.Event.{Event}
@@ -11,7 +11,7 @@ use Rattle.model.specs.Images.Described.{Numbered, described, numbered_threads}
 use Rattle.model.specs.Images.Image.{Image}
 use Rattle.model.specs.Kernel.Interrupts.{binding}
 use Rattle.model.specs.Kernel.Scheduling.{current, is_runnable}
-use Rattle.model.specs.Kernel.State.{NotificationObject, NotificationState, State, ThreadState, thread_at}
+use Rattle.model.specs.Kernel.State.{EndpointObject, EndpointState, NotificationObject, NotificationState, State, ThreadState, thread_at}
 use Rattle.model.specs.Kernel.Steps.{state_after, step, trace}
 use Rattle.headline.proofs.Laws.{state-next, step-cases, trace-next}
 use Rattle.headline.specs.facts.Standing.{AllStand}
@@ -21,7 +21,7 @@ use Rattle.headline.specs.steps.Points.{ReachesNoCall}
 use Rattle.response.specs.DealtWith.{Rests}
 use Rattle.response.specs.Laws.{RunsOfLevel, WaitsToTake}
 use Rattle.response.specs.Left.{irq_lines}
-use Rattle.response.specs.Owed.{OweBelow, RingsFitWith, WaitsWhereAsked, at_rest_with, owed_of_thread, work, work_after}
+use Rattle.response.specs.Owed.{OweBelow, StepsFitWith, WaitsWhereAsked, at_rest_with, owed_of_thread, work, work_after}
 use Rattle.response.specs.Levels.{is_of_level}
 use Rattle.response.specs.Weights.{Pays, Weights}
 use Rattle.response.proofs.MessageRests.{below-owes}
@@ -37,7 +37,7 @@ module _ (laws : Laws) (steps : AnyStepGoesWell) (told : (a b : ThreadState) →
     → (state_after (described image) events).objects queue ≡ Some (NotificationObject n) → n.waiters ≡ tcb_of image u ∷ others
     → WaitsToTake image u (state_after (described image) events) (trace (described image) events) queue)
     (where_asked : (u : Numbered) → Contains (numbered_threads image) u → WaitsWhereAsked image u (state_after (described image) events))
-    (owed_most : ℕ → ℕ) (owe : OweBelow image priority w owed_most)
+    (is_taken : ℕ → Bool) (owed_most : ℕ → ℕ) (owe : OweBelow image priority w is_taken owed_most)
     (owe_at_rest : Rests image priority (state_after (described image) events) → (u : Numbered) → Contains (numbered_threads image) u
     → is_of_level priority u ≡ true → owed_of_thread image priority w (state_after (described image) events) u ≤ owed_most u.number)
     (bound : (number : ℕ) → number < 64 → binding (step (state_after (described image) events) Step).0 number
@@ -47,12 +47,14 @@ module _ (laws : Laws) (steps : AnyStepGoesWell) (told : (a b : ThreadState) →
     (below : is_of_level priority t ≡ false)
     (level-runs : (u : Numbered) → Contains (numbered_threads image) u → is_of_level priority u ≡ true
     → is_runnable (thread_at (state_after (described image) events) (tcb_of image u)).status ≡ true
-    → RunsOfLevel image priority (state_after (described image) events)) (is_taken is_open : ℕ → Bool)
+    → RunsOfLevel image priority (state_after (described image) events)) (is_open : ℕ → Bool)
     (words : Rests image priority (state_after (described image) events) → (queue : ℕ) (n : NotificationState) → is_taken queue ≡ true
     → (state_after (described image) events).objects queue ≡ Some (NotificationObject n) → n.word ≡ 0)
+    (messages : Rests image priority (state_after (described image) events) → (queue : ℕ) (e : EndpointState) → is_taken queue ≡ true
+    → (state_after (described image) events).objects queue ≡ Some (EndpointObject e) → e.senders ≡ [])
     (lines : Rests image priority (state_after (described image) events) → (number : ℕ) → number < 64 → is_open number ≡ true
     → (state_after (described image) events).pending number ≡ false) (most : ℕ)
-    (fit : RingsFitWith image priority w is_taken is_open owed_most most) (rest : at_rest_with image w is_taken is_open owed_most ≤ most) where
+    (fit : StepsFitWith image priority w is_taken is_open owed_most most) (rest : at_rest_with image w is_taken is_open owed_most ≤ most) where
   abbrev s : State
   s = state_after (described image) events
 
@@ -90,19 +92,21 @@ module _ (laws : Laws) (steps : AnyStepGoesWell) (told : (a b : ThreadState) →
   owes : (u : Numbered) → Contains (numbered_threads image) u → owed_of_thread image priority w s u ≤ owed_most u.number
   owes u among = elim (is_of_level priority u) as (λ b. is_of_level priority u ≡ b → owed_of_thread image priority w s u ≤ owed_most u.number) [
     | true ↦ λ level. owe_at_rest stops u among level
-    | false ↦ λ other. below-owes laws.below bytes image accepted priority w owed_most owe s labels all u among other
+    | false ↦ λ other.
+        below-owes laws.below bytes image accepted priority w is_taken owed_most owe s labels all (λ o e here at. messages stops o e here at) u among
+        (where_asked u among) other
   ] refl
 
   abbrev Fits : Type 0
   Fits = work image priority w (step s Step).0 (labels ++ (step s Step).1 ∷ []) ≤ most
 
   calls : MakesCall s (tcb_of image t) → Fits
-  calls = call-rests-so laws steps told bytes image accepted s labels all stay t listed now priority w pays takes where_asked bound owed_most owe owes
-      (λ number among. described_so number (few-lines number among)) below rests is_taken taken is_open silent most fit rest
+  calls = call-rests-so laws steps told bytes image accepted s labels all stay t listed now priority w pays takes where_asked bound is_taken owed_most owe
+      owes (λ number among. described_so number (few-lines number among)) below rests taken is_open silent most fit rest
 
   plain : ReachesNoCall s (tcb_of image t) → Fits
-  plain = plain-rests-so laws steps told bytes image accepted s labels all stay t listed now priority w pays takes where_asked bound owed_most owe owes
-      (λ number among. described_so number (few-lines number among)) below rests is_taken taken is_open silent most fit rest
+  plain = plain-rests-so laws steps told bytes image accepted s labels all stay t listed now priority w pays takes where_asked bound is_taken owed_most owe
+      owes (λ number among. described_so number (few-lines number among)) below rests taken is_open silent most fit rest
 
   pub step-rests : work image priority w (step (state_after (described image) events) Step).0
       (trace (described image) events ++ (step (state_after (described image) events) Step).1 ∷ []) ≤ most

@@ -22,9 +22,9 @@ use Rattle.model.specs.Kernel.Interrupts.{binding}
 use Rattle.model.specs.Kernel.Kinds.{object_named}
 use Rattle.model.specs.Kernel.Retype.{NewEndpoint, NewNotification}
 use Rattle.model.specs.Kernel.Scheduling.{current, is_runnable}
-use Rattle.model.specs.Kernel.State.{AwaitsHandler, AwaitsReply, Blocked, EndpointObject, EndpointState, Inactive, NotificationObject, NotificationState}
+use Rattle.model.specs.Kernel.State.{AwaitsReply, Blocked, EndpointObject, EndpointState, Inactive, NotificationObject, NotificationState}
 use Rattle.model.specs.Kernel.State.{Object}
-use Rattle.model.specs.Kernel.State.{Runnable, State, Status, ThreadObject, ThreadState, notification_at, thread_at}
+use Rattle.model.specs.Kernel.State.{Runnable, State, ThreadObject, ThreadState, notification_at, thread_at}
 use Rattle.model.specs.Kernel.Steps.{memory_base, named_slot, registers_of, step, system_call}
 use Rattle.model.specs.Kernel.Waits.{is_fault, open_count}
 use Rattle.model.specs.Machine.Effects.{effect}
@@ -39,14 +39,14 @@ use Rattle.response.specs.Asking.{Accepts, Acknowledges, Answers, Asked, Asks_no
 use Rattle.response.specs.Laws.{WaitsToTake}
 use Rattle.response.specs.Levels.{is_of_level}
 use Rattle.response.specs.Left.{at_rest, irq_lines, left}
-use Rattle.response.specs.Owed.{OweBelow, PayAnswers, RingsFitWith, WaitsWhereAsked, at_rest_with, is_call, owed, owed_of_thread, work}
+use Rattle.response.specs.Owed.{OweBelow, PayAnswers, StepsFitWith, WaitsWhereAsked, at_rest_with, is_call, owed, owed_of_thread, work}
 use Rattle.response.specs.Weights.{Pays, Weights, waits_for_no_message}
 use Rattle.response.proofs.AskedNow.{asked_now, may_wait}
 use Rattle.response.proofs.AskedSteps.{asked-same, others-asked, own-asked, runs-vacuous, vacuous}
 use Rattle.response.proofs.CallLabels.{called-is, called-label, others-count, own-count}
 use Rattle.response.proofs.Interrupts.{put-at, put-off, thread-of, word-of}
 use Rattle.response.proofs.MessageCalls.{call-works}
-use Rattle.response.proofs.MessageRests.{message-rests, owed-rests}
+use Rattle.response.proofs.MessageRests.{message-rests, owed-rests, runs-is}
 use Rattle.response.proofs.NamedNow.{asks-so}
 use Rattle.response.proofs.OwedEvents.{owed-computes}
 use Rattle.response.proofs.OwnAuthority.{OwnAuthority, own-authority}
@@ -71,13 +71,6 @@ free-none (Looks o) free = refl
 free-none (Tries o) free = refl
 free-none Answers free = refl
 free-none Asks_nothing free = refl
-
-pub runs-is : (status : Status) → is_runnable status ≡ true → status ≡ Runnable
-runs-is Runnable is = refl
-runs-is Inactive is = absurd (let clash : false ≡ true = is in cc)
-runs-is (Blocked queue) is = absurd (let clash : false ≡ true = is in cc)
-runs-is AwaitsReply is = absurd (let clash : false ≡ true = is in cc)
-runs-is AwaitsHandler is = absurd (let clash : false ≡ true = is in cc)
 
 module _ (laws : Laws) (steps : AnyStepGoesWell) (told : (a b : ThreadState) → (a ≡ b) ⊎ (a ≢ b)) (bytes : List ℕ) (image : Image)
     (accepted : IsAccepted bytes image) (s : State) (labels : List Label) (all : AllStand image s labels) (stay : StaysWithin image s Step (step s Step).0)
@@ -270,23 +263,24 @@ module _ (laws : Laws) (steps : AnyStepGoesWell) (told : (a b : ThreadState) →
       → s.objects queue ≡ Some (NotificationObject n) → n.waiters ≡ tcb_of image u ∷ others → WaitsToTake image u s labels queue)
       (where_asked : (u : Numbered) → Contains (numbered_threads image) u → WaitsWhereAsked image u s)
       (bound : (number : ℕ) → number < 64 → binding (step s Step).0 number ≡ binding s number)
-      (owed_most : ℕ → ℕ) (owe : OweBelow image priority w owed_most)
+      (is_taken : ℕ → Bool) (owed_most : ℕ → ℕ) (owe : OweBelow image priority w is_taken owed_most)
       (owes : (u : Numbered) → Contains (numbered_threads image) u → owed_of_thread image priority w s u ≤ owed_most u.number)
       (described_so : (number : ℕ) → Contains irq_lines number → binding s number ≡ binding (described image) number)
       (below : is_of_level priority t ≡ false)
       (rests : (u : Numbered) → Contains (numbered_threads image) u → is_of_level priority u ≡ true
-      → is_runnable (thread_at s (tcb_of image u)).status ≡ true → ⊥) (is_taken : ℕ → Bool)
+      → is_runnable (thread_at s (tcb_of image u)).status ≡ true → ⊥)
       (taken_none : (queue : ℕ) (n : NotificationState) → is_taken queue ≡ true → s.objects queue ≡ Some (NotificationObject n) → n.word ≡ 0)
       (is_open : ℕ → Bool)
       (silent : (number : ℕ) → Contains irq_lines number → is_open number ≡ true → s.pending number ≡ false)
-      (most : ℕ) (fit : RingsFitWith image priority w is_taken is_open owed_most most) (rest : at_rest_with image w is_taken is_open owed_most ≤ most) where
+      (most : ℕ) (fit : StepsFitWith image priority w is_taken is_open owed_most most) (rest : at_rest_with image w is_taken is_open owed_most ≤ most) where
     pub call-rests-so : MakesCall s (tcb_of image t) → work image priority w (step s Step).0 (labels ++ (step s Step).1 ∷ []) ≤ most
     call-rests-so makes =
         call-leaves laws.below bytes image t s labels accepted all listed now makes (λ _. work image priority w after later ≤ most)
         (λ mine point state answer call at _ _ rule.
         message-rests laws.below bytes image accepted priority w pays s after labels later all well.stands told t listed own.within takes where_asked
-        (counts makes) bound owed_most owe owes described_so below rests is_taken taken_none is_open silent mine point state answer at
-        (count makes mine point state answer at) (sends makes mine point state answer at) (calls makes mine point state answer at) most fit rest)
+        (counts makes) bound is_taken owed_most owe owes described_so below rests taken_none is_open silent mine point state answer at
+        (count makes mine point state answer at) (sends makes mine point state answer at) (calls makes mine point state answer at)
+        (accepts makes mine point state answer at) (waits_so makes mine point state answer at) most fit rest)
 
     -- an instruction changes the thread's registers, and bytes
     module _ (instruction : Instr) where

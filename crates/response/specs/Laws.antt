@@ -28,7 +28,7 @@ use Rattle.response.specs.Left.{at_rest, left, line_price}
 use Rattle.response.specs.Levels.{HasItsPriority, KeepsLevel, KeepsLevelOnceRested, is_level_label, is_of_level}
 use Rattle.response.specs.Resting.{AreAcknowledged, AreTakenAlone, IsAcknowledged, IsTended, Skips, TakesFromOne}
 use Rattle.response.specs.Responding.{DealsOnceRested, DealsWithin, RespondsOnceRested, RespondsWithin, Response, is_open_by, passes, passes_rested}
-use Rattle.response.specs.Owed.{AcceptsFromOne, IsLeftAtRest, OweAtMost, OweBelow, PayAnswers, RingsFitWith, WaitsAtDoor, WaitsWhereAsked}
+use Rattle.response.specs.Owed.{AcceptsFromOne, IsLeftAtRest, OweAtMost, OweBelow, PayAnswers, StepsFitWith, WaitsAtDoor, WaitsWhereAsked}
 use Rattle.response.specs.Owed.{at_rest_with, passes_messages, passes_messages_rested, work_after}
 use Rattle.response.specs.Rates.{Keeps, Rate, cost_of, costs_within, steps_in}
 use Rattle.response.specs.Weights.{Leads, Pays, Weights, price_of, waits_for_notifications_alone}
@@ -384,16 +384,16 @@ AllCallsAreWork =
 abbrev pub LeftAtRest : Type 0
 LeftAtRest =
     (bytes : List ℕ) (image : Image) (priority : ℕ) (w : Weights) (is_taken is_open : ℕ → Bool) (owed_most : ℕ → ℕ) → IsAccepted bytes image
-    → AreTakenAlone image priority is_taken → AreAcknowledged image priority is_open → OweAtMost image priority w owed_most
-    → OweBelow image priority w owed_most × IsLeftAtRest image priority w is_taken is_open owed_most
+    → AreTakenAlone image priority is_taken → AreAcknowledged image priority is_open → OweAtMost image priority w is_taken owed_most
+    → OweBelow image priority w is_taken owed_most × IsLeftAtRest image priority w is_taken is_open owed_most
 
 -- after a step of another thread no more work is there than at rest, and what that rings
 abbrev pub StepsBelowRestOwing : Type 0
 StepsBelowRestOwing =
     (bytes : List ℕ) (image : Image) (priority : ℕ) (w : Weights) (is_taken is_open : ℕ → Bool) (owed_most : ℕ → ℕ) (most : ℕ) (events : List Event)
-    (t : Numbered) → IsAccepted bytes image → All (KeepsDevices image) events → Pays image priority w → OweBelow image priority w owed_most
+    (t : Numbered) → IsAccepted bytes image → All (KeepsDevices image) events → Pays image priority w → OweBelow image priority w is_taken owed_most
     → IsLeftAtRest image priority w is_taken is_open owed_most
-    → RingsFitWith image priority w is_taken is_open owed_most most → at_rest_with image w is_taken is_open owed_most ≤ most
+    → StepsFitWith image priority w is_taken is_open owed_most most → at_rest_with image w is_taken is_open owed_most ≤ most
     → Contains (numbered_threads image) t → is_of_level priority t ≡ false → current (state_after (described image) events) ≡ Some (tcb_of image t)
     → work_after image priority w (events ++ Step ∷ []) ≤ most
 
@@ -402,7 +402,7 @@ abbrev pub AllStepsBelowRest : Type 0
 AllStepsBelowRest =
     (bytes : List ℕ) (image : Image) (priority : ℕ) (w : Weights) (is_taken is_open : ℕ → Bool) (owed_most : ℕ → ℕ) (most : ℕ) (events : List Event)
     (t : Numbered) → IsAccepted bytes image → All (KeepsDevices image) events → Pays image priority w → AreTakenAlone image priority is_taken
-    → AreAcknowledged image priority is_open → OweAtMost image priority w owed_most → RingsFitWith image priority w is_taken is_open owed_most most
+    → AreAcknowledged image priority is_open → OweAtMost image priority w is_taken owed_most → StepsFitWith image priority w is_taken is_open owed_most most
     → at_rest_with image w is_taken is_open owed_most ≤ most
     → Contains (numbered_threads image) t → is_of_level priority t ≡ false → current (state_after (described image) events) ≡ Some (tcb_of image t)
     → work_after image priority w (events ++ Step ∷ []) ≤ most
@@ -412,8 +412,8 @@ abbrev pub LevelsRestOwing : Type 0
 LevelsRestOwing =
     (bytes : List ℕ) (image : Image) (priority : ℕ) (w : Weights) (rates : List Rate) (is_taken is_open : ℕ → Bool) (owed_most : ℕ → ℕ) (most n : ℕ)
     (events : List Event) → IsAccepted bytes image → All (KeepsDevices image) events → Pays image priority w → PayAnswers image priority w
-    → OweBelow image priority w owed_most → IsLeftAtRest image priority w is_taken is_open owed_most
-    → RingsFitWith image priority w is_taken is_open owed_most most → HaveRates image w rates
+    → OweBelow image priority w is_taken owed_most → IsLeftAtRest image priority w is_taken is_open owed_most
+    → StepsFitWith image priority w is_taken is_open owed_most most → HaveRates image w rates
     → left_after image priority w [] ≤ most → at_rest_with image w is_taken is_open owed_most ≤ most → Keeps rates events
     → most + costs_within rates (line_price w (described image)) n ≤ n → KeepsLevel image priority n events
 
@@ -422,8 +422,8 @@ abbrev pub LevelsRestOwingLater : Type 0
 LevelsRestOwingLater =
     (bytes : List ℕ) (image : Image) (priority : ℕ) (w : Weights) (rates : List Rate) (is_taken is_open : ℕ → Bool) (owed_most : ℕ → ℕ) (most n : ℕ)
     (events : List Event) → IsAccepted bytes image → All (KeepsDevices image) events → Pays image priority w → PayAnswers image priority w
-    → OweBelow image priority w owed_most → IsLeftAtRest image priority w is_taken is_open owed_most
-    → RingsFitWith image priority w is_taken is_open owed_most most → HaveRates image w rates
+    → OweBelow image priority w is_taken owed_most → IsLeftAtRest image priority w is_taken is_open owed_most
+    → StepsFitWith image priority w is_taken is_open owed_most most → HaveRates image w rates
     → at_rest_with image w is_taken is_open owed_most ≤ most → Keeps rates events
     → most + costs_within rates (line_price w (described image)) n ≤ n → KeepsLevelOnceRested image priority n events
 
@@ -432,8 +432,8 @@ abbrev pub AllLevelsRestWithin : Type 0
 AllLevelsRestWithin =
     (bytes : List ℕ) (image : Image) (priority : ℕ) (w : Weights) (rates : List Rate) (is_taken is_open : ℕ → Bool) (owed_most : ℕ → ℕ) (most n : ℕ)
     (events : List Event) → IsAccepted bytes image → All (KeepsDevices image) events → Pays image priority w → PayAnswers image priority w
-    → AreTakenAlone image priority is_taken → AreAcknowledged image priority is_open → OweAtMost image priority w owed_most
-    → RingsFitWith image priority w is_taken is_open owed_most most → HaveRates image w rates
+    → AreTakenAlone image priority is_taken → AreAcknowledged image priority is_open → OweAtMost image priority w is_taken owed_most
+    → StepsFitWith image priority w is_taken is_open owed_most most → HaveRates image w rates
     → left_after image priority w [] ≤ most → at_rest_with image w is_taken is_open owed_most ≤ most → Keeps rates events
     → most + costs_within rates (line_price w (described image)) n ≤ n → KeepsLevel image priority n events
 
@@ -442,8 +442,8 @@ abbrev pub AllLevelsRestLater : Type 0
 AllLevelsRestLater =
     (bytes : List ℕ) (image : Image) (priority : ℕ) (w : Weights) (rates : List Rate) (is_taken is_open : ℕ → Bool) (owed_most : ℕ → ℕ) (most n : ℕ)
     (events : List Event) → IsAccepted bytes image → All (KeepsDevices image) events → Pays image priority w → PayAnswers image priority w
-    → AreTakenAlone image priority is_taken → AreAcknowledged image priority is_open → OweAtMost image priority w owed_most
-    → RingsFitWith image priority w is_taken is_open owed_most most → HaveRates image w rates
+    → AreTakenAlone image priority is_taken → AreAcknowledged image priority is_open → OweAtMost image priority w is_taken owed_most
+    → StepsFitWith image priority w is_taken is_open owed_most most → HaveRates image w rates
     → at_rest_with image w is_taken is_open owed_most ≤ most → Keeps rates events
     → most + costs_within rates (line_price w (described image)) n ≤ n → KeepsLevelOnceRested image priority n events
 

@@ -1,6 +1,7 @@
 -- Messages: what is owed to threads that wait to send, or for an answer, and what a level has still to run with that. The test of a response for
 -- levels that send, call and serve.
-use Rattle.std.specs.Prelude.{ℕ, ◌≡◌, ◌==◌, ◌+◌, ◌≤◌, ◌<◌, ◌&&◌, ◌||◌, Bool, true, false, nat_le, not, All, Contains, List, [], Some, if◌then◌else◌}
+use Rattle.std.specs.Prelude.{ℕ, ◌≡◌, ◌==◌, ◌+◌, ◌≤◌, ◌<◌, ◌&&◌, ◌||◌, Bool, true, false, nat_le, not, All, Contains, List, [], Option, Some, None}
+use Rattle.std.specs.Prelude.{if◌then◌else◌}
 use Rattle.std.specs.List.{list_all}
 use Rattle.model.specs.declared.events.Event.{Event}
 use Rattle.model.specs.declared.labels.Label.{Label}
@@ -19,8 +20,8 @@ use Rattle.response.specs.DealtWith.{Rests}
 use Rattle.response.specs.Left.{at_rest, left, line_price, point_now, total}
 use Rattle.response.specs.Levels.{is_of_level}
 use Rattle.response.specs.Rates.{Rate, costs_within}
-use Rattle.response.specs.Responding.{Response, are_priced, at_each, have_rates, is_acknowledged, is_open_by, is_taken_by, pay_for_level, rests_at, ring_fits}
-use Rattle.response.specs.Responding.{asks_each, over_edges}
+use Rattle.response.specs.Responding.{Response, are_priced, asks_each, at_each, have_rates, is_acknowledged, is_open_by, is_taken_by, over_edges}
+use Rattle.response.specs.Responding.{pay_for_level, rests_at}
 use Rattle.response.specs.Weights.{Leads, Weights, price_of}
 
 -- ---- what is owed
@@ -113,31 +114,37 @@ PayAnswers image priority w =
 
 -- ---- at rest
 
--- what a thread may wait with is at most so much; one below may also leave a message that it tries to send
-abbrev pub owes_at_most : Weights → Bool → ℕ → ℕ → Asked → Bool
-owes_at_most w level next most (SendsTo o) = nat_le (price_of w o + next) most
-owes_at_most w level next most (Calls o) = nat_le (price_of w o + next) most
-owes_at_most w level next most (Tries o) = level || nat_le (price_of w o) most
-owes_at_most w level next most (Takes o) = true
-owes_at_most w level next most (Polls o) = true
-owes_at_most w level next most (Rings o) = true
-owes_at_most w level next most (Acknowledges irq_line) = true
-owes_at_most w level next most (Accepts o replies) = true
-owes_at_most w level next most (Looks o) = true
-owes_at_most w level next most Answers = true
-owes_at_most w level next most Asks_nothing = true
+-- what a message costs that may wait at an endpoint where no thread of the level is ready: none waits where one of them rests that takes it
+abbrev pub waiting_price : Weights → (ℕ → Bool) → ℕ → ℕ
+waiting_price w is_taken o = if is_taken o then 0 else price_of w o
 
-abbrev pub OweAtMost : Image → ℕ → Weights → (ℕ → ℕ) → Type 0
-OweAtMost image priority w most =
+-- What a thread may wait with is at most so much; one below may also leave a message that it tries to send. Where a message is taken at once nobody
+-- waits to send it, and who calls waits for the answer alone.
+abbrev pub owes_at_most : Weights → (ℕ → Bool) → Bool → ℕ → ℕ → Asked → Bool
+owes_at_most w is_taken level next most (SendsTo o) = is_taken o || nat_le (price_of w o + next) most
+owes_at_most w is_taken level next most (Calls o) = nat_le (waiting_price w is_taken o + next) most
+owes_at_most w is_taken level next most (Tries o) = level || is_taken o || nat_le (price_of w o) most
+owes_at_most w is_taken level next most (Takes o) = true
+owes_at_most w is_taken level next most (Polls o) = true
+owes_at_most w is_taken level next most (Rings o) = true
+owes_at_most w is_taken level next most (Acknowledges irq_line) = true
+owes_at_most w is_taken level next most (Accepts o replies) = true
+owes_at_most w is_taken level next most (Looks o) = true
+owes_at_most w is_taken level next most Answers = true
+owes_at_most w is_taken level next most Asks_nothing = true
+
+abbrev pub OweAtMost : Image → ℕ → Weights → (ℕ → Bool) → (ℕ → ℕ) → Type 0
+OweAtMost image priority w is_taken most =
     (t : Numbered) (point : ℕ) (state : PointState) → Contains (numbered_threads image) t → point < t.thread.header.words
     → noted image t point ≡ Known state
-    → owes_at_most w (is_of_level priority t) (going_on priority w t point) (most t.number) (asked_at image t.thread point state) ≡ true
+    → owes_at_most w is_taken (is_of_level priority t) (going_on priority w t point) (most t.number) (asked_at image t.thread point state) ≡ true
 
 -- so below the level
-abbrev pub OweBelow : Image → ℕ → Weights → (ℕ → ℕ) → Type 0
-OweBelow image priority w most =
+abbrev pub OweBelow : Image → ℕ → Weights → (ℕ → Bool) → (ℕ → ℕ) → Type 0
+OweBelow image priority w is_taken most =
     (t : Numbered) (point : ℕ) (state : PointState) → Contains (numbered_threads image) t → is_of_level priority t ≡ false → point < t.thread.header.words
-    → noted image t point ≡ Known state → owes_at_most w false (going_on priority w t point) (most t.number) (asked_at image t.thread point state) ≡ true
+    → noted image t point ≡ Known state
+    → owes_at_most w is_taken false (going_on priority w t point) (most t.number) (asked_at image t.thread point state) ≡ true
 
 -- and in the level, where none of its threads is ready
 abbrev pub OweAtRest : Image → ℕ → Weights → (ℕ → ℕ) → Type 0
@@ -146,12 +153,15 @@ OweAtRest image priority w most =
     → Rests image priority (state_after (described image) events)
     → owed_of_thread image priority w (state_after (described image) events) t ≤ most t.number
 
--- Where no thread of the level is ready, no word stands at these objects, nothing is pending on these lines, and none of its threads waits with more
--- than so much.
+-- Where no thread of the level is ready, no word stands at these objects, and nobody waits to send there; nothing is pending on these lines, and none of
+-- its threads waits with more than so much.
 pub record IsLeftAtRest (image : Image) (priority : ℕ) (w : Weights) (is_taken is_open : ℕ → Bool) (most : ℕ → ℕ) : Type 0 where
   pub words : (events : List Event) (queue : ℕ) (n : NotificationState) → All (KeepsDevices image) events
       → Rests image priority (state_after (described image) events) → is_taken queue ≡ true
       → (state_after (described image) events).objects queue ≡ Some (NotificationObject n) → n.word ≡ 0
+  pub messages : (events : List Event) (queue : ℕ) (e : EndpointState) → All (KeepsDevices image) events
+      → Rests image priority (state_after (described image) events) → is_taken queue ≡ true
+      → (state_after (described image) events).objects queue ≡ Some (EndpointObject e) → e.senders ≡ []
   pub lines : (events : List Event) (number : ℕ) → All (KeepsDevices image) events → Rests image priority (state_after (described image) events)
       → number < 64 → is_open number ≡ true → (state_after (described image) events).pending number ≡ false
   pub owed : OweAtRest image priority w most
@@ -161,12 +171,26 @@ abbrev pub at_rest_with : Image → Weights → (ℕ → Bool) → (ℕ → Bool
 at_rest_with image w is_taken is_open most =
     at_rest image w is_taken is_open + total (λ (t : Numbered). most t.number) (numbered_threads image)
 
--- what a thread below rings is left too, where a thread of the level rests that takes from it alone
-abbrev pub RingsFitWith : Image → ℕ → Weights → (ℕ → Bool) → (ℕ → Bool) → (ℕ → ℕ) → ℕ → Type 0
-RingsFitWith image priority w is_taken is_open owed_most most =
+-- where a word or a message comes to
+abbrev pub comes_to : Asked → Option ℕ
+comes_to (Rings o) = Some o
+comes_to (SendsTo o) = Some o
+comes_to (Calls o) = Some o
+comes_to (Tries o) = Some o
+comes_to (Takes o) = None
+comes_to (Polls o) = None
+comes_to (Acknowledges irq_line) = None
+comes_to (Accepts o replies) = None
+comes_to (Looks o) = None
+comes_to Answers = None
+comes_to Asks_nothing = None
+
+-- what one step of a thread below sets going is left too, where a thread of the level rests that takes what comes: no word and no message is counted there
+abbrev pub StepsFitWith : Image → ℕ → Weights → (ℕ → Bool) → (ℕ → Bool) → (ℕ → ℕ) → ℕ → Type 0
+StepsFitWith image priority w is_taken is_open owed_most most =
     (t : Numbered) (point : ℕ) (state : PointState) (object : ℕ) → Contains (numbered_threads image) t → is_of_level priority t ≡ false
-    → point < t.thread.header.words → noted image t point ≡ Known state → asked_at image t.thread point state ≡ Rings object → is_taken object ≡ true
-    → at_rest_with image w is_taken is_open owed_most + price_of w object ≤ most
+    → point < t.thread.header.words → noted image t point ≡ Known state → comes_to (asked_at image t.thread point state) ≡ Some object
+    → is_taken object ≡ true → at_rest_with image w is_taken is_open owed_most + price_of w object ≤ most
 
 -- ---- who waits is where it asked for that
 
@@ -229,17 +253,26 @@ pay_answers image priority w =
     || over_edges image t (λ asked here next. pays_answer w t.thread.header.budget (w.still t.number here) (w.still t.number next) asked))
     (numbered_threads image)
 
-abbrev pub owe_at_most : Image → ℕ → Weights → (ℕ → ℕ) → Bool
-owe_at_most image priority w most =
+abbrev pub owe_at_most : Image → ℕ → Weights → (ℕ → Bool) → (ℕ → ℕ) → Bool
+owe_at_most image priority w is_taken most =
     list_all (λ t. at_each image t (λ point state.
-    owes_at_most w (is_of_level priority t) (going_on priority w t point) (most t.number) (asked_at image t.thread point state))) (numbered_threads image)
+    owes_at_most w is_taken (is_of_level priority t) (going_on priority w t point) (most t.number) (asked_at image t.thread point state)))
+    (numbered_threads image)
 
 abbrev pub rest_with : Image → Response → (ℕ → ℕ) → ℕ
 rest_with image r most = at_rest_with image r.weights (is_taken_by r) (is_open_by r) most
 
-abbrev pub rings_fit_with : Image → ℕ → Response → (ℕ → ℕ) → Bool
-rings_fit_with image priority r most =
-    list_all (λ t. is_of_level priority t || asks_each image t (ring_fits (is_taken_by r) (price_of r.weights) (rest_with image r most) r.most))
+-- by where the step comes to
+abbrev pub fits_at : (ℕ → Bool) → (ℕ → ℕ) → ℕ → ℕ → Option ℕ → Bool
+fits_at is_taken price rest most (Some o) = not (is_taken o) || nat_le (rest + price o) most
+fits_at is_taken price rest most None = true
+
+abbrev pub step_fits : (ℕ → Bool) → (ℕ → ℕ) → ℕ → ℕ → Asked → Bool
+step_fits is_taken price rest most asked = fits_at is_taken price rest most (comes_to asked)
+
+abbrev pub steps_fit_with : Image → ℕ → Response → (ℕ → ℕ) → Bool
+steps_fit_with image priority r most =
+    list_all (λ t. is_of_level priority t || asks_each image t (step_fits (is_taken_by r) (price_of r.weights) (rest_with image r most) r.most))
     (numbered_threads image)
 
 -- all that the bound rests on once the level has rested; `owed_most` is what each thread may wait with, by its number
@@ -248,10 +281,10 @@ passes_messages_rested image priority rates r owed_most =
     are_priced r.weights
     && (pay_for_level image priority r.weights
     && (pay_answers image priority r.weights
-    && (owe_at_most image priority r.weights owed_most
+    && (owe_at_most image priority r.weights (is_taken_by r) owed_most
     && (list_all (rests_at image priority) r.taken
     && (list_all (is_acknowledged image priority) r.open_lines
-    && (rings_fit_with image priority r owed_most
+    && (steps_fit_with image priority r owed_most
     && (have_rates image r.weights rates
     && (nat_le (rest_with image r owed_most) r.most
     && nat_le (r.most + costs_within rates (line_price r.weights (described image)) r.steps) r.steps))))))))

@@ -313,11 +313,12 @@ pub fn left_at_rest()
 {
     laws_on_invocations();
     events_go_well();
+    threads_wait_where_they_asked();
     no_word_at_rest();
     acknowledged_lines_rest();
 }
 
-/// After a step of another thread no more work is there than at rest, and what that rings.
+/// After a step of another thread no more work is there than at rest, and what that brings.
 pub fn steps_below_rest_owing()
     ensures { StepsBelowRestOwing }
 {
@@ -361,6 +362,7 @@ pub fn levels_rest_owing()
     ticks_leave_the_work();
     the_world_leaves_the_work();
     interrupts_cost();
+    threads_wait_where_they_asked();
     calls_are_work();
     steps_below_rest_owing();
     economies_bound();

@@ -14,7 +14,7 @@ use Rattle.response.specs.Laws.{left_after}
 use Rattle.response.specs.Levels.{KeepsLevel, KeepsLevelOnceRested, is_level_label}
 use Rattle.response.specs.Rates.{Keeps, Rate, steps_in}
 use Rattle.response.specs.Responding.{Response, is_open_by, is_taken_by}
-use Rattle.response.proofs.Laws.{answers-so, pays-so, rates-so, rings-with-so}
+use Rattle.response.proofs.Laws.{answers-so, pays-so, rates-so, steps-with-so}
 use Rattle.settled_threads.specs.Laws.{SettledLevelsRestLater, SettledLevelsRestWithin, SettledLinesAreDealtWith, SettledLinesAreDealtWithLater}
 use Rattle.settled_threads.specs.Settled.{AreSettled, AreTended}
 use Rattle.settled_threads.specs.Tested.{IsTendedAt, Settlement}
@@ -36,7 +36,8 @@ module _ (bytes : List ℕ) (image : Image) (priority : ℕ) (rates : List Rate)
   runs-at-first law start events devices keeps =
       law bytes image priority r.weights s.settling rates (is_taken_by r) (is_open_by r) most r.most r.steps events accepted devices
       (pays-so r.weights p.priced image priority p.pays) (answers-so image priority r.weights p.answers) settled (inputs-so image s.settling r p.taken) tended
-      (others-so image priority r.weights s.settling most p.owes) (rings-with-so image priority r most p.rings) (rates-so image r.weights rates p.rated) start
+      (others-so image priority r.weights s.settling (is_taken_by r) most p.owes) (steps-with-so image priority r most p.steps_below)
+      (rates-so image r.weights rates p.rated) start
       p.rest keeps p.steps
 
   pub runs-later : SettledLevelsRestLater → (events : List Event) → All (KeepsDevices image) events → Keeps rates events
@@ -44,7 +45,8 @@ module _ (bytes : List ℕ) (image : Image) (priority : ℕ) (rates : List Rate)
   runs-later law events devices keeps =
       law bytes image priority r.weights s.settling rates (is_taken_by r) (is_open_by r) most r.most r.steps events accepted devices
       (pays-so r.weights p.priced image priority p.pays) (answers-so image priority r.weights p.answers) settled (inputs-so image s.settling r p.taken) tended
-      (others-so image priority r.weights s.settling most p.owes) (rings-with-so image priority r most p.rings) (rates-so image r.weights rates p.rated)
+      (others-so image priority r.weights s.settling (is_taken_by r) most p.owes) (steps-with-so image priority r most p.steps_below)
+      (rates-so image r.weights rates p.rated)
       p.rest keeps p.steps
 
   pub deals-at-first : SettledLinesAreDealtWith → left_after image priority r.weights [] ≤ r.most → (number : ℕ) → number < 64 → is_open_by r number ≡ true
@@ -57,7 +59,7 @@ module _ (bytes : List ℕ) (image : Image) (priority : ℕ) (rates : List Rate)
         λ events before window later devices keeps split enough.
             law bytes image priority r.weights s.settling rates (is_taken_by r) (is_open_by r) most r.most r.steps events accepted devices
             (pays-so r.weights p.priced image priority p.pays) (answers-so image priority r.weights p.answers) settled (inputs-so image s.settling r p.taken)
-            tended (others-so image priority r.weights s.settling most p.owes) (rings-with-so image priority r most p.rings)
+            tended (others-so image priority r.weights s.settling (is_taken_by r) most p.owes) (steps-with-so image priority r most p.steps_below)
             (rates-so image r.weights rates p.rated) start p.rest keeps p.steps number few here before window later split enough,
       )
 
@@ -73,6 +75,6 @@ module _ (bytes : List ℕ) (image : Image) (priority : ℕ) (rates : List Rate)
         λ events first more window later devices keeps other split enough.
             law bytes image priority r.weights s.settling rates (is_taken_by r) (is_open_by r) most r.most r.steps events accepted devices
             (pays-so r.weights p.priced image priority p.pays) (answers-so image priority r.weights p.answers) settled (inputs-so image s.settling r p.taken)
-            tended (others-so image priority r.weights s.settling most p.owes) (rings-with-so image priority r most p.rings)
+            tended (others-so image priority r.weights s.settling (is_taken_by r) most p.owes) (steps-with-so image priority r most p.steps_below)
             (rates-so image r.weights rates p.rated) p.rest keeps p.steps number few here first more window later other split enough,
       )

@@ -1,10 +1,9 @@
 -- Where nothing of a level is ready each settled thread waits at its input: whom it sends to waits there before it, and whom it called has answered.
-use Rattle.std.proofs.Common.{ℕ, zero, suc, ◌≡◌, ◌∙◌, ◌+◌, ◌++◌, ◌≤◌, ◌⊎◌, map, inl, inr, Bool, true, false, if◌then◌else◌, Option}
-use Rattle.std.proofs.Common.{Some, None, List, [], ◌∷◌, refl, sym, ap, subst, arith}
+use Rattle.std.proofs.Common.{ℕ, zero, suc, ◌≡◌, ◌∙◌, ◌+◌, ◌⊎◌, inl, inr, Bool, true, false, if◌then◌else◌, Option}
+use Rattle.std.proofs.Common.{Some, None, List, [], refl, sym, ap, subst, arith}
 use Rattle.std.specs.Prelude.{Contains}
 use Rattle.std.specs.Option.{option_map_or}
 use Rattle.std.proofs.lemmas.Bool.{eq-eqb}
-use Rattle.std.proofs.lemmas.Bool.Decides.{eqb_tells}
 use Rattle.model.specs.declared.capabilities.Cap.TheVariants.{Endpoint, Notification}
 use Rattle.model.specs.declared.labels.Label.{Label}
 use Rattle.model.specs.declared.rights.Rights.{Rights}
@@ -12,37 +11,23 @@ use Rattle.model.specs.Acceptance.Accepted.{IsAccepted}
 use Rattle.model.specs.Acceptance.ThreadInvariants.{IsWaiting, tcb_of}
 use Rattle.model.specs.Images.Described.{Numbered, numbered_threads}
 use Rattle.model.specs.Images.Image.{Image}
-use Rattle.model.specs.Kernel.Kinds.{Names, object_named}
-use Rattle.model.specs.Kernel.Retype.{NewNotification}
 use Rattle.model.specs.Kernel.Scheduling.{is_runnable}
 use Rattle.model.specs.Kernel.Soundness.{is_blocked_on, waiting_at, waits_at}
 use Rattle.model.specs.Kernel.State.{AwaitsHandler, AwaitsReply, Blocked, Inactive, NotificationObject, NotificationState, Object}
-use Rattle.model.specs.Kernel.State.{Runnable, Sender, State, Status, ThreadState, as_thread, thread_at}
+use Rattle.model.specs.Kernel.State.{Runnable, State, Status, ThreadState, as_thread, thread_at}
 use Rattle.model.specs.Shared.Lists.{times_in}
-use Rattle.soundness.proofs.Laws.{notification-kind}
-use Rattle.headline.proofs.Laws.{at-place, held-there}
+use Rattle.headline.proofs.Laws.{at-place}
 use Rattle.headline.specs.facts.Standing.{AllStand}
-use Rattle.headline.specs.facts.Waiting.{QueuesSo, WaitsSo}
 use Rattle.headline.specs.moves.Laws.{Laws}
 use Rattle.response.specs.Asking.{Accepts, Acknowledges, Answers, Asked, Asks_nothing, Calls, Looks, Polls, Rings, SendsTo, Takes, Tries, asked_at}
 use Rattle.response.specs.Asking.{capability_named}
 use Rattle.response.specs.DealtWith.{Rests}
 use Rattle.response.specs.Owed.{WaitsWhereAsked, asked_there}
-use Rattle.response.proofs.Laws.{WaitsAt, WaitsBy, accepts-rests, accepts-there, accepts_from, called-there, calls_there, counted-there, gate-there, here}
-use Rattle.response.proofs.Laws.{named-is, same-bell, same-queue, sends_there, takes_word, there-is, waits-at}
+use Rattle.response.proofs.Laws.{WaitsAt, WaitsBy, accepts-rests, accepts_from, bell-queue, bell-waits, called-there, calls_there, gate-there, here}
+use Rattle.response.proofs.Laws.{receives-there, sends_there, takes_word, there-is, waits-at}
 use Rattle.settled_threads.specs.Answering.{IsAnswered, IsOwed, is_accept}
 use Rattle.settled_threads.specs.Settled.{AreSettled, AsksSettled, ComesBefore, HasNothing, IsServed, IsTaken, Settling, WaitsAtInput, taken_by}
 use Rattle.settled_threads.proofs.Holders.{OwesOn, owes-on}
-
--- who is counted in a list is in it
-counted-in : (l : List ℕ) (place : ℕ) → 1 ≤ times_in l place → Contains l place
-counted-in [] place some = absurd (omega (arith, some))
-counted-in (x ∷ l) place some = elim (eqb_tells x place) [
-  | inl same ↦ (0, omega arith, same.1)
-  | inr apart ↦ (
-      let rest = counted-in l place (subst (λ (b : Bool). 1 ≤ (if b then times_in l place + 1 else times_in l place)) apart.0 some) in
-      let inside = rest.1 in (suc rest.0, omega (arith, inside), rest.2))
-]
 
 -- a call that takes from something takes from a notification, or accepts
 takes-some : (asked : Asked) (o : ℕ) → taken_by asked ≡ Some o → (asked ≡ Takes o) ⊎ (is_accept asked ≡ true)
@@ -101,20 +86,11 @@ module _ (laws : Laws) (bytes : List ℕ) (image : Image) (s : State) (labels : 
 
     module _ (o : ℕ) (r : Rights) (badge : ℕ) (named : capability_named image t.thread v.state ≡ Notification o r badge) (asks : asked ≡ Takes o)
         (queue : ℕ) (blocked : own.status ≡ Blocked queue) where
-      so : QueuesSo image t s v.state v.left queue
-      so = subst (λ (x : Status). WaitsSo image t s v.state v.left x) blocked v.so
-
-      held-as : so.capability ≡ Notification o r badge
-      held-as = sym (named-is image t v.state so.capability so.named) ∙ named
-
       status-is : own.status ≡ Blocked o
-      status-is = blocked ∙ ap Blocked (sym (same-bell o queue r badge so.capability held-as so.leads))
+      status-is = blocked ∙ ap Blocked (sym (bell-queue laws bytes image s labels accepted all t listed own v queue blocked o r badge named))
 
       bell : (n : NotificationState) × (s.objects o ≡ Some (NotificationObject n))
-      bell =
-          let held = held-there laws.holds laws.finds bytes image t s accepted listed own v.point v.state v.left v.stands v.call (Names NewNotification o)
-          so.capability so.named (ap object_named held-as) in
-          notification-kind (s.objects o) (all.sound.memory.named held.slot NewNotification o held.such)
+      bell = bell-waits laws bytes image s labels accepted all t listed own v queue blocked o r badge named
 
       counted : times_in bell.0.waiters (tcb_of image t) ≡ 1
       counted =
@@ -163,12 +139,7 @@ module _ (laws : Laws) (bytes : List ℕ) (image : Image) (s : State) (labels : 
       never-queued queue blocked =
           let gate = gate-there laws bytes image s labels accepted all t listed own v queue blocked o r badge named in
           let none : gate.0.senders ≡ [] = subst HasNothing gate.1 (below taken.0 o taken.1).nothing in
-          let counted_ : times_in gate.0.receivers (tcb_of image t) ≡ 1 =
-          sym (ap (λ (l : List Sender). times_in (map (λ (x : Sender). x.thread) l ++ gate.0.receivers) (tcb_of image t)) none)
-          ∙ counted-there laws bytes image s labels accepted all t listed own v queue blocked o r badge named in
-          let place = counted-in gate.0.receivers (tcb_of image t) (omega (arith, counted_)) in
-          let here_ = blocked ∙ ap Blocked (sym (same-queue laws bytes image s labels accepted all t listed own v queue blocked o r badge named)) in
-          let accepts = accepts-there laws bytes image s labels accepted all t listed own v (asked_so t listed) o here_ gate.0 gate.1 place in
+          let accepts = receives-there laws bytes image s labels accepted all t listed own v queue blocked o r badge named (asked_so t listed) none in
           no_accept accepts.0 accepts.1
 
     -- ---- a caller was answered

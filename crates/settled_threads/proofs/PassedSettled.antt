@@ -12,7 +12,7 @@ use Rattle.response.specs.Asking.{Accepts, Acknowledges, Answers, Asked, Asks_no
 use Rattle.response.specs.Laws.{left_after}
 use Rattle.response.specs.Left.{left, line_price}
 use Rattle.response.specs.Levels.{is_of_level}
-use Rattle.response.specs.Owed.{at_rest_with, going_on, owes_at_most, pay_answers, rest_with, rings_fit_with}
+use Rattle.response.specs.Owed.{at_rest_with, going_on, owes_at_most, pay_answers, rest_with, steps_fit_with}
 use Rattle.response.specs.Rates.{Rate, costs_within}
 use Rattle.response.specs.Responding.{OpenLine, Response, are_priced, asks_each, at_each, have_rates, is_acknowledged, is_open_by, is_taken_by, leaves}
 use Rattle.response.specs.Responding.{pay_for_level}
@@ -96,14 +96,14 @@ tended-at image priority settling settled number a input =
 
 -- ---- the others
 
-pub others-so : (image : Image) (priority : ℕ) (w : Weights) (settling : Settling) (most : ℕ → ℕ) → others_owe image priority w settling most ≡ true
-    → OthersOweAtMost image priority w settling most
-others-so image priority w settling most all t point state listed none inside known =
-    known-at image t (λ n here. owes_at_most w (is_of_level priority t) (going_on priority w t n) (most t.number) (asked_at image t.thread n here))
+pub others-so : (image : Image) (priority : ℕ) (w : Weights) (settling : Settling) (is_taken : ℕ → Bool) (most : ℕ → ℕ)
+    → others_owe image priority w settling is_taken most ≡ true → OthersOweAtMost image priority w settling is_taken most
+others-so image priority w settling is_taken most all t point state listed none inside known =
+    known-at image t (λ n here. owes_at_most w is_taken (is_of_level priority t) (going_on priority w t n) (most t.number) (asked_at image t.thread n here))
     (or-then (is_some (settling.input t.number)) _ (ap is_some none)
     (all-at (λ (u : Numbered). is_some (settling.input u.number) || at_each image u (λ n here.
-    owes_at_most w (is_of_level priority u) (going_on priority w u n) (most u.number) (asked_at image u.thread n here))) (numbered_threads image) t listed
-    all))
+    owes_at_most w is_taken (is_of_level priority u) (going_on priority w u n) (most u.number) (asked_at image u.thread n here))) (numbered_threads image) t
+    listed all))
     point state inside known
 
 -- ---- the whole
@@ -113,10 +113,10 @@ pub record PassedSettled (image : Image) (priority : ℕ) (rates : List Rate) (r
   pub pays : pay_for_level image priority r.weights ≡ true
   pub answers : pay_answers image priority r.weights ≡ true
   pub settled : are_settled image priority s ≡ true
-  pub owes : others_owe image priority r.weights s.settling most ≡ true
+  pub owes : others_owe image priority r.weights s.settling (is_taken_by r) most ≡ true
   pub taken : list_all (is_input_there image s.settling) r.taken ≡ true
   pub open_ones : list_all (is_tended image s.settling) r.open_lines ≡ true
-  pub rings : rings_fit_with image priority r most ≡ true
+  pub steps_below : steps_fit_with image priority r most ≡ true
   pub rated : have_rates image r.weights rates ≡ true
   pub rest : at_rest_with image r.weights (is_taken_by r) (is_open_by r) most ≤ r.most
   pub steps : r.most + costs_within rates (line_price r.weights (described image)) r.steps ≤ r.steps
@@ -129,10 +129,10 @@ passed-settled image priority rates r s most all =
     let two = and_parts (pay_for_level image priority r.weights) _ one.1 in
     let three = and_parts (pay_answers image priority r.weights) _ two.1 in
     let four = and_parts (are_settled image priority s) _ three.1 in
-    let five = and_parts (others_owe image priority r.weights s.settling most) _ four.1 in
+    let five = and_parts (others_owe image priority r.weights s.settling (is_taken_by r) most) _ four.1 in
     let six = and_parts (list_all (is_input_there image s.settling) r.taken) _ five.1 in
     let seven = and_parts (list_all (is_tended image s.settling) r.open_lines) _ six.1 in
-    let eight = and_parts (rings_fit_with image priority r most) _ seven.1 in
+    let eight = and_parts (steps_fit_with image priority r most) _ seven.1 in
     let nine = and_parts (have_rates image r.weights rates) _ eight.1 in
     let ten = and_parts (nat_le (rest_with image r most) r.most) _ nine.1 in
     record {
@@ -143,7 +143,7 @@ passed-settled image priority rates r s most all =
       owes = five.0;
       taken = six.0;
       open_ones = seven.0;
-      rings = eight.0;
+      steps_below = eight.0;
       rated = nine.0;
       rest = leb-true (rest_with image r most) r.most ten.0;
       steps = leb-true (r.most + costs_within rates (line_price r.weights (described image)) r.steps) r.steps ten.1;

@@ -14,7 +14,7 @@ use Rattle.response.specs.DealtWith.{HoldsWithin, IsDealtWith, Rests}
 use Rattle.response.specs.Laws.{HaveRates, left_after}
 use Rattle.response.specs.Left.{line_price}
 use Rattle.response.specs.Levels.{KeepsLevel, KeepsLevelOnceRested, is_level_label}
-use Rattle.response.specs.Owed.{IsLeftAtRest, OweBelow, PayAnswers, RingsFitWith, asked_there, at_rest_with, owed_of_thread}
+use Rattle.response.specs.Owed.{IsLeftAtRest, OweBelow, PayAnswers, StepsFitWith, asked_there, at_rest_with, owed_of_thread}
 use Rattle.response.specs.Rates.{Keeps, Rate, costs_within, steps_in}
 use Rattle.response.specs.Responding.{DealsOnceRested, DealsWithin, OpenLine, RespondsOnceRested, RespondsWithin, Response, is_acknowledged, is_open_by}
 use Rattle.response.specs.Resting.{IsTended}
@@ -58,8 +58,8 @@ abbrev pub SettledLeftAtRest : Type 0
 SettledLeftAtRest =
     (bytes : List ℕ) (image : Image) (priority : ℕ) (w : Weights) (settling : Settling) (is_taken is_open : ℕ → Bool) (owed_most : ℕ → ℕ)
     → IsAccepted bytes image → AreSettled image priority settling → AreInputs image settling is_taken → AreTended image settling is_open
-    → OthersOweAtMost image priority w settling owed_most
-    → OweBelow image priority w owed_most × IsLeftAtRest image priority w is_taken is_open owed_most
+    → OthersOweAtMost image priority w settling is_taken owed_most
+    → OweBelow image priority w is_taken owed_most × IsLeftAtRest image priority w is_taken is_open owed_most
 
 -- So: no more than n steps on end are of the level, where all that may be left at the start and at rest, and come within n steps, is at most n.
 abbrev pub SettledLevelsRestWithin : Type 0
@@ -67,7 +67,7 @@ SettledLevelsRestWithin =
     (bytes : List ℕ) (image : Image) (priority : ℕ) (w : Weights) (settling : Settling) (rates : List Rate) (is_taken is_open : ℕ → Bool)
     (owed_most : ℕ → ℕ) (most n : ℕ) (events : List Event) → IsAccepted bytes image → All (KeepsDevices image) events → Pays image priority w
     → PayAnswers image priority w → AreSettled image priority settling → AreInputs image settling is_taken → AreTended image settling is_open
-    → OthersOweAtMost image priority w settling owed_most → RingsFitWith image priority w is_taken is_open owed_most most → HaveRates image w rates
+    → OthersOweAtMost image priority w settling is_taken owed_most → StepsFitWith image priority w is_taken is_open owed_most most → HaveRates image w rates
     → left_after image priority w [] ≤ most → at_rest_with image w is_taken is_open owed_most ≤ most → Keeps rates events
     → most + costs_within rates (line_price w (described image)) n ≤ n → KeepsLevel image priority n events
 
@@ -77,7 +77,7 @@ SettledLevelsRestLater =
     (bytes : List ℕ) (image : Image) (priority : ℕ) (w : Weights) (settling : Settling) (rates : List Rate) (is_taken is_open : ℕ → Bool)
     (owed_most : ℕ → ℕ) (most n : ℕ) (events : List Event) → IsAccepted bytes image → All (KeepsDevices image) events → Pays image priority w
     → PayAnswers image priority w → AreSettled image priority settling → AreInputs image settling is_taken → AreTended image settling is_open
-    → OthersOweAtMost image priority w settling owed_most → RingsFitWith image priority w is_taken is_open owed_most most → HaveRates image w rates
+    → OthersOweAtMost image priority w settling is_taken owed_most → StepsFitWith image priority w is_taken is_open owed_most most → HaveRates image w rates
     → at_rest_with image w is_taken is_open owed_most ≤ most → Keeps rates events
     → most + costs_within rates (line_price w (described image)) n ≤ n → KeepsLevelOnceRested image priority n events
 
@@ -89,7 +89,7 @@ SettledLinesAreDealtWith =
     (bytes : List ℕ) (image : Image) (priority : ℕ) (w : Weights) (settling : Settling) (rates : List Rate) (is_taken is_open : ℕ → Bool)
     (owed_most : ℕ → ℕ) (most n : ℕ) (events : List Event) → IsAccepted bytes image → All (KeepsDevices image) events → Pays image priority w
     → PayAnswers image priority w → AreSettled image priority settling → AreInputs image settling is_taken → (tended : AreTended image settling is_open)
-    → OthersOweAtMost image priority w settling owed_most → RingsFitWith image priority w is_taken is_open owed_most most → HaveRates image w rates
+    → OthersOweAtMost image priority w settling is_taken owed_most → StepsFitWith image priority w is_taken is_open owed_most most → HaveRates image w rates
     → left_after image priority w [] ≤ most → at_rest_with image w is_taken is_open owed_most ≤ most → Keeps rates events
     → most + costs_within rates (line_price w (described image)) n ≤ n
     → (number : ℕ) (few : number < 64) (here : is_open number ≡ true) (before window later : List Event) → events ≡ before ++ window ++ later
@@ -101,7 +101,7 @@ SettledLinesAreDealtWithLater =
     (bytes : List ℕ) (image : Image) (priority : ℕ) (w : Weights) (settling : Settling) (rates : List Rate) (is_taken is_open : ℕ → Bool)
     (owed_most : ℕ → ℕ) (most n : ℕ) (events : List Event) → IsAccepted bytes image → All (KeepsDevices image) events → Pays image priority w
     → PayAnswers image priority w → AreSettled image priority settling → AreInputs image settling is_taken → (tended : AreTended image settling is_open)
-    → OthersOweAtMost image priority w settling owed_most → RingsFitWith image priority w is_taken is_open owed_most most → HaveRates image w rates
+    → OthersOweAtMost image priority w settling is_taken owed_most → StepsFitWith image priority w is_taken is_open owed_most most → HaveRates image w rates
     → at_rest_with image w is_taken is_open owed_most ≤ most → Keeps rates events → most + costs_within rates (line_price w (described image)) n ≤ n
     → (number : ℕ) (few : number < 64) (here : is_open number ≡ true) (first more window later : List Event)
     → is_level_label image priority (step (state_after (described image) first) Step).1 ≡ false

@@ -105,8 +105,8 @@ AreTended image settling is_open =
     (number : ℕ) → number < 64 → is_open number ≡ true → (a : IsTended image number) × (settling.input a.thread.number ≡ Some a.queue)
 
 -- what a thread that is not settled may wait with is at most so much
-abbrev pub OthersOweAtMost : Image → ℕ → Weights → Settling → (ℕ → ℕ) → Type 0
-OthersOweAtMost image priority w settling most =
+abbrev pub OthersOweAtMost : Image → ℕ → Weights → Settling → (ℕ → Bool) → (ℕ → ℕ) → Type 0
+OthersOweAtMost image priority w settling is_taken most =
     (t : Numbered) (point : ℕ) (state : PointState) → Contains (numbered_threads image) t → settling.input t.number ≡ None → point < t.thread.header.words
     → noted image t point ≡ Known state
-    → owes_at_most w (is_of_level priority t) (going_on priority w t point) (most t.number) (asked_at image t.thread point state) ≡ true
+    → owes_at_most w is_taken (is_of_level priority t) (going_on priority w t point) (most t.number) (asked_at image t.thread point state) ≡ true

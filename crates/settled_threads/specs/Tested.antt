@@ -17,9 +17,9 @@ use Rattle.response.specs.Asking.{Asked, Takes, Polls, Rings, Acknowledges, Acce
 use Rattle.response.specs.DealtWith.{HoldsWithin, IsDealtWith, Rests}
 use Rattle.response.specs.Left.{left, line_price}
 use Rattle.response.specs.Levels.{is_level_label, is_of_level}
-use Rattle.response.specs.Owed.{going_on, owes_at_most, pay_answers, rest_with, rings_fit_with}
+use Rattle.response.specs.Owed.{going_on, owes_at_most, pay_answers, rest_with, steps_fit_with}
 use Rattle.response.specs.Rates.{Keeps, Rate, costs_within, steps_in}
-use Rattle.response.specs.Responding.{OpenLine, Response, are_priced, asks_each, at_each, have_rates, leaves, over_edges, pay_for_level}
+use Rattle.response.specs.Responding.{OpenLine, Response, are_priced, asks_each, at_each, have_rates, is_taken_by, leaves, over_edges, pay_for_level}
 use Rattle.response.specs.Resting.{IsTended, marks_for}
 use Rattle.response.specs.Weights.{Weights}
 use Rattle.settled_threads.specs.Answering.{owing_for}
@@ -151,25 +151,27 @@ tended_by_one image settling l None = false
 abbrev pub is_tended : Image → Settling → OpenLine → Bool
 is_tended image settling l = tended_by_one image settling l (binding (described image) l.line)
 
--- what the others may wait with
-abbrev pub others_owe : Image → ℕ → Weights → Settling → (ℕ → ℕ) → Bool
-others_owe image priority w settling most =
+-- what the others may wait with, where nobody waits to send to these objects
+abbrev pub others_owe : Image → ℕ → Weights → Settling → (ℕ → Bool) → (ℕ → ℕ) → Bool
+others_owe image priority w settling is_taken most =
     list_all (λ t. is_some (settling.input t.number) || at_each image t (λ point state.
-    owes_at_most w (is_of_level priority t) (going_on priority w t point) (most t.number) (asked_at image t.thread point state))) (numbered_threads image)
+    owes_at_most w is_taken (is_of_level priority t) (going_on priority w t point) (most t.number) (asked_at image t.thread point state)))
+    (numbered_threads image)
 
 -- ---- the whole
 
--- All that the bound rests on once the level has rested. The response's objects are inputs of settled threads, and its lines are tended by such.
+-- All that the bound rests on once the level has rested. The response's objects are inputs of settled threads, and its lines are tended by such. So what
+-- a thread below sends there is no sum over threads: one step brings one message.
 unfoldable pub passes_settled_rested : Image → ℕ → List Rate → Response → Settlement → (ℕ → ℕ) → Bool
 passes_settled_rested image priority rates r s owed_most =
     are_priced r.weights
     && (pay_for_level image priority r.weights
     && (pay_answers image priority r.weights
     && (are_settled image priority s
-    && (others_owe image priority r.weights s.settling owed_most
+    && (others_owe image priority r.weights s.settling (is_taken_by r) owed_most
     && (list_all (is_input_there image s.settling) r.taken
     && (list_all (is_tended image s.settling) r.open_lines
-    && (rings_fit_with image priority r owed_most
+    && (steps_fit_with image priority r owed_most
     && (have_rates image r.weights rates
     && (nat_le (rest_with image r owed_most) r.most
     && nat_le (r.most + costs_within rates (line_price r.weights (described image)) r.steps) r.steps)))))))))

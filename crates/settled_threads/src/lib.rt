@@ -73,12 +73,13 @@ pub fn settled_threads_deal()
     settled_threads_rest();
 }
 
-/// So at rest no word is left at their inputs, nothing is pending on lines that they tend, and only the other threads count.
+/// So at rest no word is left at their inputs, nobody waits to send there, nothing is pending on lines that they tend, and only the other threads count.
 pub fn settled_levels_leave_others()
     ensures { SettledLeftAtRest }
 {
     laws_on_invocations();
     events_go_well();
+    threads_wait_where_they_asked();
     settled_threads_rest();
     settled_threads_owe_nothing();
     settled_threads_deal();

@@ -17,8 +17,9 @@ returns-clause-start c = λ bytes image priority w rates is_taken is_open owed_m
     have start rest keeps stands.
     c.economies_bound.ensures.start image priority rates _ most n _ events
     (whole-work image priority w rates most events is_taken is_open owed_most
-    (λ before kept rests. owes-so c.laws_on_invocations.ensures.below bytes image accepted priority w owed_most owe quiet.owed before kept
-    (c.events_go_well.ensures bytes image before accepted kept).stand rests) rest devices
+    (λ before kept rests. owes-so c.laws_on_invocations.ensures.below bytes image accepted priority w is_taken is_open owed_most owe quiet before kept
+    (c.events_go_well.ensures bytes image before accepted kept).stand
+    (λ u among. c.threads_wait_where_they_asked.ensures bytes image before u accepted kept among) rests) rest devices
     (λ before kept. (_, (c.events_go_well.ensures bytes image before accepted kept).stand))
     (λ u t a b same. c.threads_have_their_own_blocks.ensures bytes image u t accepted a b same)
     (λ before kept number few. c.bindings_stay.ensures bytes image before number accepted kept few)
@@ -79,8 +80,9 @@ returns-clause-later c = λ bytes image priority w rates is_taken is_open owed_m
     have rest keeps stands.
     c.economies_bound.ensures.later image priority rates _ most n _ events
     (whole-work image priority w rates most events is_taken is_open owed_most
-    (λ before kept rests. owes-so c.laws_on_invocations.ensures.below bytes image accepted priority w owed_most owe quiet.owed before kept
-    (c.events_go_well.ensures bytes image before accepted kept).stand rests) rest devices
+    (λ before kept rests. owes-so c.laws_on_invocations.ensures.below bytes image accepted priority w is_taken is_open owed_most owe quiet before kept
+    (c.events_go_well.ensures bytes image before accepted kept).stand
+    (λ u among. c.threads_wait_where_they_asked.ensures bytes image before u accepted kept among) rests) rest devices
     (λ before kept. (_, (c.events_go_well.ensures bytes image before accepted kept).stand))
     (λ u t a b same. c.threads_have_their_own_blocks.ensures bytes image u t accepted a b same)
     (λ before kept number few. c.bindings_stay.ensures bytes image before number accepted kept few)

@@ -6,7 +6,7 @@ use Rattle.headline.proofs.Laws.{all-front}
 use Rattle.response.specs.DealtWith.{IsDealtWith, Rests}
 use Rattle.response.specs.Responding.{is_open_by, is_taken_by}
 use Rattle.response.proofs.ComesToRest.{holds-where, over-later, over-window, split-at}
-use Rattle.response.proofs.MessagePassing.{answers-so, begins-with, owes-so, passed-with, rings-with-so}
+use Rattle.response.proofs.MessagePassing.{answers-so, begins-with, owes-so, passed-with, steps-with-so}
 use Rattle.response.proofs.Passing.{acknowledged-so, pays-so, rates-so, taken-alone}
 use Rattle.response.proofs.tested_message_responses_hold.Goals as goal
 
@@ -20,7 +20,8 @@ returns-clause-steps c = λ bytes image priority rates r most accepted is.
           c.all_levels_rest_within.ensures.start bytes image priority r.weights rates (is_taken_by r) (is_open_by r) most r.most r.steps events accepted devices
           (pays-so r.weights p.priced image priority p.pays) (answers-so image priority r.weights p.answers) (taken-alone image priority r p.taken)
           (acknowledged-so image priority (λ u t a b same. c.threads_have_their_own_blocks.ensures bytes image u t accepted a b same) r p.open_ones)
-          (owes-so image priority r.weights most p.owes) (rings-with-so image priority r most p.rings) (rates-so image r.weights rates p.rated) at.1 p.rest
+          (owes-so image priority r.weights (is_taken_by r) most p.owes) (steps-with-so image priority r most p.steps_below)
+          (rates-so image r.weights rates p.rated) at.1 p.rest
           keeps
           p.steps,
     )
@@ -34,7 +35,8 @@ returns-clause-rested_steps c = λ bytes image priority rates r most accepted is
           c.all_levels_rest_within.ensures.later bytes image priority r.weights rates (is_taken_by r) (is_open_by r) most r.most r.steps events accepted devices
           (pays-so r.weights p.priced image priority p.pays) (answers-so image priority r.weights p.answers) (taken-alone image priority r p.taken)
           (acknowledged-so image priority (λ u t a b same. c.threads_have_their_own_blocks.ensures bytes image u t accepted a b same) r p.open_ones)
-          (owes-so image priority r.weights most p.owes) (rings-with-so image priority r most p.rings) (rates-so image r.weights rates p.rated) p.rest keeps
+          (owes-so image priority r.weights (is_taken_by r) most p.owes) (steps-with-so image priority r most p.steps_below)
+          (rates-so image r.weights rates p.rated) p.rest keeps
           p.steps,
     )
 
@@ -58,7 +60,8 @@ returns-clause-lines c = λ bytes image priority rates r most number accepted is
           (c.all_levels_rest_within.ensures.start bytes image priority r.weights rates (is_taken_by r) (is_open_by r) most r.most r.steps events accepted
           devices
           (pays-so r.weights p.priced image priority p.pays) (answers-so image priority r.weights p.answers) (taken-alone image priority r p.taken) acknowledged
-          (owes-so image priority r.weights most p.owes) (rings-with-so image priority r most p.rings) (rates-so image r.weights rates p.rated) at.1 p.rest
+          (owes-so image priority r.weights (is_taken_by r) most p.owes) (steps-with-so image priority r most p.steps_below)
+          (rates-so image r.weights rates p.rated) at.1 p.rest
           keeps
           p.steps) split) split enough),
     )
@@ -83,6 +86,7 @@ returns-clause-rested_lines c = λ bytes image priority rates r most number acce
           (c.all_levels_rest_within.ensures.later bytes image priority r.weights rates (is_taken_by r) (is_open_by r) most r.most r.steps events accepted
           devices
           (pays-so r.weights p.priced image priority p.pays) (answers-so image priority r.weights p.answers) (taken-alone image priority r p.taken) acknowledged
-          (owes-so image priority r.weights most p.owes) (rings-with-so image priority r most p.rings) (rates-so image r.weights rates p.rated) p.rest keeps
+          (owes-so image priority r.weights (is_taken_by r) most p.owes) (steps-with-so image priority r most p.steps_below)
+          (rates-so image r.weights rates p.rated) p.rest keeps
           p.steps) other split) split enough),
     )

@@ -12,10 +12,14 @@ use Rattle.settled_threads.proofs.settled_levels_leave_others.Goals as goal
 pub returns : goal.returns
 returns c = λ bytes image priority w settling is_taken is_open owed_most accepted settled inputs tended owe. (
   λ t point state listed below inside known.
-      subst (λ (b : Bool). owes_at_most w b (going_on priority w t point) (owed_most t.number) (asked_at image t.thread point state) ≡ true) below
+      subst (λ (b : Bool). owes_at_most w is_taken b (going_on priority w t point) (owed_most t.number) (asked_at image t.thread point state) ≡ true) below
       (owe t point state listed (below-none image priority settling settled t listed below) inside known),
   record {
     words = λ events queue n devices rests here at.
+        let who = inputs queue here in
+        let waits = c.settled_threads_rest.ensures bytes image priority settling events who.0 queue accepted devices settled rests who.1 who.2 in
+        subst HasNothing at waits.nothing;
+    messages = λ events queue e devices rests here at.
         let who = inputs queue here in
         let waits = c.settled_threads_rest.ensures bytes image priority settling events who.0 queue accepted devices settled rests who.1 who.2 in
         subst HasNothing at waits.nothing;
@@ -29,8 +33,13 @@ returns c = λ bytes image priority w settling is_taken is_open owed_most accept
               let none = c.settled_threads_owe_nothing.ensures bytes image priority w settling events t o accepted devices settled rests listed input in
               omega (arith, none)
           | None ↦ λ none.
-              owes-less c.laws_on_invocations.ensures.below bytes image accepted priority w (state_after (described image) events)
-              (trace (described image) events) (c.events_go_well.ensures bytes image events accepted devices).stand t listed (owed_most t.number)
+              owes-less c.laws_on_invocations.ensures.below bytes image accepted priority w is_taken (state_after (described image) events)
+              (trace (described image) events) (c.events_go_well.ensures bytes image events accepted devices).stand
+              (λ queue e here at.
+              let who = inputs queue here in
+              let waits = c.settled_threads_rest.ensures bytes image priority settling events who.0 queue accepted devices settled rests who.1 who.2 in
+              subst HasNothing at waits.nothing) t listed
+              (c.threads_wait_where_they_asked.ensures bytes image events t accepted devices listed) (owed_most t.number)
               (λ point state inside known. owe t point state listed none inside known)
         ] refl;
   },
