@@ -15,9 +15,9 @@ use Rattle.program_rules.specs.declared.views.ProgramView.{ProgramView}
 use Rattle.response.specs.Asking.{Asked}
 use Rattle.response.specs.Asking.{asked_at}
 use Rattle.response.specs.Levels.{is_of_level}
-use Rattle.response.specs.Owed.{owes_at_most, pay_answers, pays_answer}
+use Rattle.response.specs.Owed.{owes_at_most, pay_answers, pays_answer, step_fits}
 use Rattle.response.specs.Responding as responding
-use Rattle.response.specs.Responding.{OpenLine, acknowledged_by_one, acknowledges, asks_each, at_each, leaves, over_edges, pay_for_level, ring_fits, takes_only}
+use Rattle.response.specs.Responding.{OpenLine, acknowledged_by_one, acknowledges, asks_each, at_each, leaves, over_edges, pay_for_level, takes_only}
 use Rattle.response.specs.Weights.{pays_for, price_of}
 use Rattle.response.specs.Weights.{Weights as SpecWeights}
 use Rattle.settled_threads.specs.Tested as tested
@@ -94,23 +94,23 @@ module _ (image : Image) (priority : ℕ) (programs : List ProgramView) (are : A
   answers-so w all = part-so pays_answer w (λ budget here next asked is. (and_parts (pays_for (weights_of w) budget here next asked) _ is).1) all
 
   -- of threads that are not settled
-  pub owes-so : (w : Weights) (s : Settled) (owed : List ℕ) → seen.owe_all priority w s owed programs ≡ true
-      → others_owe image priority (weights_of w) (settlement_of s).settling (number_at owed) ≡ true
-  owes-so w s owed all =
+  pub owes-so : (w : Weights) (s : Settled) (taken owed : List ℕ) → seen.owe_all priority w s taken owed programs ≡ true
+      → others_owe image priority (weights_of w) (settlement_of s).settling (seen.is_taken_among taken) (number_at owed) ≡ true
+  owes-so w s taken owed all =
       all-from image
-      (λ p. is_some (input_at s.inputs.items p.number) || points_pass (λ point. seen.owes_so priority w owed p (point + 1)) 0 p.points.items)
+      (λ p. is_some (input_at s.inputs.items p.number) || points_pass (λ point. seen.owes_so priority w taken owed p (point + 1)) 0 p.points.items)
       (λ t. is_some (input_at s.inputs.items t.number) || by-parts t t.thread.header t.number)
       (λ t p view is.
       ap (λ n. is_some (input_at s.inputs.items n) || by-parts t t.thread.header n) (sym view.number)
-      ∙ or-so (is_some (input_at s.inputs.items p.number)) (points_pass (λ point. seen.owes_so priority w owed p (point + 1)) 0 p.points.items)
+      ∙ or-so (is_some (input_at s.inputs.items p.number)) (points_pass (λ point. seen.owes_so priority w taken owed p (point + 1)) 0 p.points.items)
       (by-parts t t.thread.header p.number)
       (λ passes. ap (λ (h : ThreadHeader). by-parts t h p.number) (sym view.header)
-      ∙ asks-there image t p view (λ point. seen.owes_so priority w owed p (point + 1)) passes) is) 0 image.threads programs are all
+      ∙ asks-there image t p view (λ point. seen.owes_so priority w taken owed p (point + 1)) passes) is) 0 image.threads programs are all
     where
       by-parts : Numbered → ThreadHeader → ℕ → Bool
       by-parts t h n =
           at_each image t
-          (λ point state. owes_at_most (weights_of w) (nat_le priority h.priority)
+          (λ point state. owes_at_most (weights_of w) (seen.is_taken_among taken) (nat_le priority h.priority)
           (if nat_le priority h.priority then h.budget + (weights_of w).still n (point + 1) else 0)
           (number_at owed n) (asked_at image t.thread point state))
 
@@ -191,16 +191,16 @@ module _ (image : Image) (priority : ℕ) (programs : List ProgramView) (are : A
         list_all-map (tested.is_tended image (settlement_of s).settling) open_line lines
         ∙ all-so (settling.is_tended s programs bells) (λ l. tested.is_tended image (settlement_of s).settling (open_line l)) (tended-line s) lines all
 
-  -- rings from below
-  pub rings-so : (is_taken : ℕ → Bool) (w : Weights) (rest most : ℕ) → seen.fit_rings priority is_taken (price_in w.prices.items) rest most programs ≡ true
-      → list_all (λ t. is_of_level priority t || asks_each image t (ring_fits is_taken (price_of (weights_of w)) rest most)) (numbered_threads image) ≡ true
-  rings-so is_taken w rest most all =
-      (λ i. list_all (λ t. is_of_level priority t || asks_each image t (ring_fits is_taken (λ o. price-same w o i) rest most)) (numbered_threads image))
-      ∙ all-from image (λ p. seen.is_high priority p || list_all (view_passes (ring_fits is_taken (price_in w.prices.items) rest most)) p.points.items)
-      (λ t. is_of_level priority t || asks_each image t (ring_fits is_taken (price_in w.prices.items) rest most))
+  -- what steps of threads below set going
+  pub steps-so : (is_taken : ℕ → Bool) (w : Weights) (rest most : ℕ) → seen.fit_steps priority is_taken (price_in w.prices.items) rest most programs ≡ true
+      → list_all (λ t. is_of_level priority t || asks_each image t (step_fits is_taken (price_of (weights_of w)) rest most)) (numbered_threads image) ≡ true
+  steps-so is_taken w rest most all =
+      (λ i. list_all (λ t. is_of_level priority t || asks_each image t (step_fits is_taken (λ o. price-same w o i) rest most)) (numbered_threads image))
+      ∙ all-from image (λ p. seen.is_high priority p || list_all (view_passes (step_fits is_taken (price_in w.prices.items) rest most)) p.points.items)
+      (λ t. is_of_level priority t || asks_each image t (step_fits is_taken (price_in w.prices.items) rest most))
       (λ t p view is.
-      or-so (is_of_level priority t) (list_all (view_passes (ring_fits is_taken (price_in w.prices.items) rest most)) p.points.items)
-      (asks_each image t (ring_fits is_taken (price_in w.prices.items) rest most))
-      (asks-so image t p view (ring_fits is_taken (price_in w.prices.items) rest most))
-      (ap (λ b. b || list_all (view_passes (ring_fits is_taken (price_in w.prices.items) rest most)) p.points.items) (sym (high-same t p view)) ∙ is))
+      or-so (is_of_level priority t) (list_all (view_passes (step_fits is_taken (price_in w.prices.items) rest most)) p.points.items)
+      (asks_each image t (step_fits is_taken (price_in w.prices.items) rest most))
+      (asks-so image t p view (step_fits is_taken (price_in w.prices.items) rest most))
+      (ap (λ b. b || list_all (view_passes (step_fits is_taken (price_in w.prices.items) rest most)) p.points.items) (sym (high-same t p view)) ∙ is))
       0 image.threads programs are all

@@ -8,7 +8,7 @@ use Rattle.response.specs.Weights.{pays_for, price_of}
 use Rattle.program_rules.specs.declared.views.ProgramView.{ProgramView}
 use Rattle.responses.proofs.Lists.{and-true}
 use Rattle.responses.proofs.Priced.{price-same}
-use Rattle.responses.specs.Checks.{going_to, is_high, owes_so}
+use Rattle.responses.specs.Checks.{going_to, is_high, is_taken_among, owes_so}
 use Rattle.responses.specs.Edges.{pays_wholly}
 use Rattle.responses.specs.Found.{number_at, price_in, weights_of}
 use Rattle.responses.specs.Seen.{asked}
@@ -56,22 +56,24 @@ module _ (w : Weights) (budget here next : ℕ) (ask : Ask) (o price : ℕ) (cos
       ∙ ap (λ (a : Ask). pays_wholly (weights_of w) budget here next (asked a)) (sym same)
 
 -- what a thread may wait with before a point
-module _ (priority : ℕ) (w : Weights) (owed : List ℕ) (p : ProgramView) (next : ℕ) (ask : Ask) (o price : ℕ)
-    (costs : price ≡ price_in w.prices.items o) (r : Bool) where
-  owed-price : price ≡ price_of (weights_of w) o
-  owed-price = costs ∙ sym (price-same w o)
-
-  pub sent-so : ask ≡ SendsTo o → r ≡ nat_le (price + going_to priority w p next) (number_at owed p.number) → r ≡ owes_so priority w owed p next (asked ask)
+module _ (priority : ℕ) (w : Weights) (taken owed : List ℕ) (p : ProgramView) (next : ℕ) (ask : Ask) (o : ℕ) (r : Bool) where
+  pub sent-so : ask ≡ SendsTo o
+      → r ≡ (is_taken_among taken o || nat_le (price_in w.prices.items o + going_to priority w p next) (number_at owed p.number))
+      → r ≡ owes_so priority w taken owed p next (asked ask)
   sent-so same fits =
-      fits ∙ ap (λ n. nat_le (n + going_to priority w p next) (number_at owed p.number)) owed-price
-      ∙ ap (λ (a : Ask). owes_so priority w owed p next (asked a)) (sym same)
+      fits ∙ ap (λ n. is_taken_among taken o || nat_le (n + going_to priority w p next) (number_at owed p.number)) (sym (price-same w o))
+      ∙ ap (λ (a : Ask). owes_so priority w taken owed p next (asked a)) (sym same)
 
-  pub called-so : ask ≡ Calls o → r ≡ nat_le (price + going_to priority w p next) (number_at owed p.number) → r ≡ owes_so priority w owed p next (asked ask)
-  called-so same fits =
-      fits ∙ ap (λ n. nat_le (n + going_to priority w p next) (number_at owed p.number)) owed-price
-      ∙ ap (λ (a : Ask). owes_so priority w owed p next (asked a)) (sym same)
+  pub called-so : (price : ℕ) → price ≡ (if is_taken_among taken o then 0 else price_in w.prices.items o) → ask ≡ Calls o
+      → r ≡ nat_le (price + going_to priority w p next) (number_at owed p.number) → r ≡ owes_so priority w taken owed p next (asked ask)
+  called-so price costs same fits =
+      fits
+      ∙ ap (λ n. nat_le (n + going_to priority w p next) (number_at owed p.number))
+      (costs ∙ ap (λ n. if is_taken_among taken o then 0 else n) (sym (price-same w o)))
+      ∙ ap (λ (a : Ask). owes_so priority w taken owed p next (asked a)) (sym same)
 
-  pub tried-so : ask ≡ Tries o → r ≡ (is_high priority p || nat_le price (number_at owed p.number)) → r ≡ owes_so priority w owed p next (asked ask)
+  pub tried-so : ask ≡ Tries o → r ≡ (is_high priority p || is_taken_among taken o || nat_le (price_in w.prices.items o) (number_at owed p.number))
+      → r ≡ owes_so priority w taken owed p next (asked ask)
   tried-so same fits =
-      fits ∙ ap (λ n. is_high priority p || nat_le n (number_at owed p.number)) owed-price
-      ∙ ap (λ (a : Ask). owes_so priority w owed p next (asked a)) (sym same)
+      fits ∙ ap (λ n. is_high priority p || is_taken_among taken o || nat_le n (number_at owed p.number)) (sym (price-same w o))
+      ∙ ap (λ (a : Ask). owes_so priority w taken owed p next (asked a)) (sym same)

@@ -12,17 +12,17 @@ use Rattle.program_rules.specs.Views.{AreProgramViews}
 use Rattle.program_rules.specs.declared.views.ProgramView.{ProgramView}
 use Rattle.response.specs.Left.{irq_lines, left, line_price, total}
 use Rattle.response.specs.Levels.{is_of_level}
-use Rattle.response.specs.Owed.{rest_with, rings_fit_with}
+use Rattle.response.specs.Owed.{rest_with, step_fits, steps_fit_with}
 use Rattle.response.specs.Rates.{costs_within}
 use Rattle.response.specs.Rates.{Rate as SpecRate}
-use Rattle.response.specs.Responding.{DealsOnceRested, DealsWithin, OpenLine, Response, asks_each, have_rates, is_acknowledged, ring_fits}
+use Rattle.response.specs.Responding.{DealsOnceRested, DealsWithin, OpenLine, Response, asks_each, have_rates, is_acknowledged}
 use Rattle.response.specs.Weights.{price_of}
 use Rattle.response.proofs.Laws.{all-at, any-found}
 use Rattle.settled_threads.specs.Laws.{AloneResponsesDeal, RestedAloneResponsesDeal, RestedSettledResponsesDeal, RestedSettledResponsesHold}
 use Rattle.settled_threads.specs.Laws.{SettledResponsesDeal, SettledResponsesHold, TestedThreadsRest}
 use Rattle.settled_threads.specs.Tested.{Settlement, passes_settled, passes_settled_rested}
 use Rattle.responses.proofs.Lists.{both-true}
-use Rattle.responses.proofs.Paid.{answers-so, lines-so, owes-so, pays-so, rings-so, tended-so}
+use Rattle.responses.proofs.Paid.{answers-so, lines-so, owes-so, pays-so, steps-so, tended-so}
 use Rattle.responses.proofs.Priced.{costs-same, lines-same, priced-so, rated-so}
 use Rattle.responses.proofs.SettledSeen.{inputs-so, settled-so}
 use Rattle.responses.proofs.Starts.{left-is}
@@ -81,14 +81,14 @@ module _ (image : Image) (fits : whole_image.fits image ≡ true) (well : IsWell
 -- ---- the whole
 
 module _ (image : Image) (priority : ℕ) (rates : List Rate) (r : Response) (s : Settlement) (owed_most : ℕ → ℕ) where
-  pub rested-so : IsPaid image priority r s owed_most → rings_fit_with image priority r owed_most ≡ true
+  pub rested-so : IsPaid image priority r s owed_most → steps_fit_with image priority r owed_most ≡ true
       → have_rates image r.weights (map rate_of rates) ≡ true → nat_le (rest_with image r owed_most) r.most ≡ true
       → nat_le (r.most + costs_within (map rate_of rates) (line_price r.weights (described image)) r.steps) r.steps ≡ true
       → passes_settled_rested image priority (map rate_of rates) r s owed_most ≡ true
   unfolding passes_settled_rested
-  rested-so paid rings rated rest costs =
+  rested-so paid below rated rest costs =
       both-true _ _ paid.priced (both-true _ _ paid.pays (both-true _ _ paid.answers (both-true _ _ paid.settled (both-true _ _ paid.owes
-      (both-true _ _ paid.taken (both-true _ _ paid.tended (both-true _ _ rings (both-true _ _ rated (both-true _ _ rest costs)))))))))
+      (both-true _ _ paid.taken (both-true _ _ paid.tended (both-true _ _ below (both-true _ _ rated (both-true _ _ rest costs)))))))))
 
   pub starts-so : passes_settled_rested image priority (map rate_of rates) r s owed_most ≡ true
       → nat_le (left image priority r.weights (described image) []) r.most ≡ true
@@ -144,36 +144,36 @@ module _ (image : Image) (fits : whole_image.fits image ≡ true) (well : IsWell
       let one = and_parts (list_all (seen.is_priced w.prices.items) w.prices.items) _ holds in
       let two = and_parts (seen.pay_all w priority programs) _ one.1 in
       let three = and_parts (settling.are_settled priority s programs) _ two.1 in
-      let four = and_parts (seen.owe_all priority w s owed programs) _ three.1 in
+      let four = and_parts (seen.owe_all priority w s taken owed programs) _ three.1 in
       let five = and_parts (list_all (settling.is_input_there s programs) taken) (list_all (settling.is_tended s programs bells) lines) four.1 in
       record {
         priced = priced-so w one.0;
         pays = pays-so image priority programs are w two.0;
         answers = answers-so image priority programs are w two.0;
         settled = settled-so image priority programs are s three.0;
-        owes = owes-so image priority programs are w s owed four.0;
+        owes = owes-so image priority programs are w s taken owed four.0;
         taken = inputs-so image priority programs are s taken five.0;
         tended = tended-so image priority programs are fits well bells are_bells s lines five.1;
       }
 
-  rings_fit_by : ℕ → ℕ → Bool
-  rings_fit_by most n =
-      list_all (λ t. is_of_level priority t || asks_each image t (ring_fits (is_taken_among taken) (price_of (weights_of w)) n most)) (numbered_threads image)
+  steps_fit_by : ℕ → ℕ → Bool
+  steps_fit_by most n =
+      list_all (λ t. is_of_level priority t || asks_each image t (step_fits (is_taken_among taken) (price_of (weights_of w)) n most)) (numbered_threads image)
 
   pub tested-so : (rates : List Rate) (most steps rest costs : ℕ) → settling.are_paid priority w s taken lines owed programs bells ≡ true
       → rest ≡ rest_with image (response_of w taken lines 0 0) (number_at owed)
       → costs ≡ total (λ r. (r.burst + steps / r.period) * price_of_line w.prices.items bells r.line) rates
       → seen.sums_fit priority rates w taken programs bells rest costs most steps ≡ true
       → passes_settled_rested image priority (map rate_of rates) (response_of w taken lines most steps) (settlement_of s) (number_at owed) ≡ true
-  unfolding rings_fit_by
+  unfolding steps_fit_by
   tested-so rates most steps rest costs paid rest_same costs_same fit =
       let r : Response = response_of w taken lines most steps in
-      let one = and_parts (seen.fit_rings priority (is_taken_among taken) (price_in w.prices.items) rest most programs) _ fit in
+      let one = and_parts (seen.fit_steps priority (is_taken_among taken) (price_in w.prices.items) rest most programs) _ fit in
       let two = and_parts (list_all (seen.is_rated w.prices.items bells rates) (range_with_len 0 64)) _ one.1 in
       let three = and_parts (list_all (λ (r : Rate). nat_lt r.line 64) rates) _ two.1 in
       let four = and_parts (nat_le rest most) (nat_le (most + costs) steps) three.1 in
       rested-so image priority rates r (settlement_of s) (number_at owed) (paid-so most steps paid)
-      (subst (λ n. rings_fit_by most n ≡ true) rest_same (rings-so image priority programs are (is_taken_among taken) w rest most one.0))
+      (subst (λ n. steps_fit_by most n ≡ true) rest_same (steps-so image priority programs are (is_taken_among taken) w rest most one.0))
       (rated-so image fits well bells are_bells w rates two.0)
       (subst (λ n. nat_le n most ≡ true) rest_same four.0)
       (subst (λ n. nat_le (most + n) steps ≡ true) (costs_same ∙ sym (costs-same image fits well bells are_bells w rates steps three.0)) four.1)

@@ -5,7 +5,8 @@ use Rattle.model.specs.Acceptance.Accepted.{IsAccepted}
 use Rattle.model.specs.Images.Image.{Image}
 use Rattle.response.specs.Rates.{Rate}
 use Rattle.response.specs.Owed.{pay_answers}
-use Rattle.response.specs.Responding.{DealsOnceRested, DealsWithin, RespondsOnceRested, RespondsWithin, Response, are_priced, is_acknowledged, pay_for_level}
+use Rattle.response.specs.Responding.{DealsOnceRested, DealsWithin, RespondsOnceRested, RespondsWithin, Response, are_priced, is_acknowledged, is_taken_by}
+use Rattle.response.specs.Responding.{pay_for_level}
 use Rattle.settled_threads.specs.Tested.{RestsAtInput, Settlement, TendsOnceRested, TendsWithin, are_settled, is_input_there, is_tended, others_owe}
 use Rattle.settled_threads.specs.Tested.{passes_settled, passes_settled_rested}
 use Rattle.responses.specs.Checks.{is_open_among}
@@ -26,7 +27,7 @@ pub record IsPaid (image : Image) (priority : ℕ) (r : Response) (s : Settlemen
   pub pays : pay_for_level image priority r.weights ≡ true
   pub answers : pay_answers image priority r.weights ≡ true
   pub settled : are_settled image priority s ≡ true
-  pub owes : others_owe image priority r.weights s.settling owed_most ≡ true
+  pub owes : others_owe image priority r.weights s.settling (is_taken_by r) owed_most ≡ true
   pub taken : list_all (is_input_there image s.settling) r.taken ≡ true
   pub tended : list_all (is_tended image s.settling) r.open_lines ≡ true
 

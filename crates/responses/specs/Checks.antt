@@ -5,8 +5,7 @@ use Rattle.model.specs.Shared.Lists.{times_in}
 use Rattle.program_rules.specs.declared.views.ProgramView.{ProgramView}
 use Rattle.response.specs.Asking.{Asked}
 use Rattle.response.specs.Left.{total}
-use Rattle.response.specs.Owed.{owes_at_most}
-use Rattle.response.specs.Responding.{ring_fits}
+use Rattle.response.specs.Owed.{owes_at_most, step_fits}
 use Rattle.responses.specs.Edges.{keeps_on, pays_on}
 use Rattle.responses.specs.Found.{number_at, price_in, weights_of}
 use Rattle.responses.specs.Lines.{bell_at}
@@ -75,9 +74,10 @@ acknowledged_for priority programs line None = false
 abbrev pub is_acknowledged : ℕ → List ProgramView → List (Option Bell) → AcknowledgedLine → Bool
 is_acknowledged priority programs bells line = acknowledged_for priority programs line (bell_at bells line.line)
 
-abbrev pub fit_rings : ℕ → (ℕ → Bool) → (ℕ → ℕ) → ℕ → ℕ → List ProgramView → Bool
-fit_rings priority is_taken price rest most programs =
-    list_all (λ p. is_high priority p || list_all (view_passes (ring_fits is_taken price rest most)) p.points.items) programs
+-- what one step of each thread below sets going
+abbrev pub fit_steps : ℕ → (ℕ → Bool) → (ℕ → ℕ) → ℕ → ℕ → List ProgramView → Bool
+fit_steps priority is_taken price rest most programs =
+    list_all (λ p. is_high priority p || list_all (view_passes (step_fits is_taken price rest most)) p.points.items) programs
 
 -- ---- messages
 
@@ -85,14 +85,15 @@ fit_rings priority is_taken price rest most programs =
 abbrev pub going_to : ℕ → Weights → ProgramView → ℕ → ℕ
 going_to priority w p next = if is_high priority p then p.header.budget + (weights_of w).still p.number next else 0
 
--- what it may wait with before that point is at most so much
-abbrev pub owes_so : ℕ → Weights → List ℕ → ProgramView → ℕ → Asked → Bool
-owes_so priority w owed p next asked = owes_at_most (weights_of w) (is_high priority p) (going_to priority w p next) (number_at owed p.number) asked
+-- what it may wait with before that point is at most so much, where nobody waits to send to objects that are taken
+abbrev pub owes_so : ℕ → Weights → List ℕ → List ℕ → ProgramView → ℕ → Asked → Bool
+owes_so priority w taken owed p next asked =
+    owes_at_most (weights_of w) (is_taken_among taken) (is_high priority p) (going_to priority w p next) (number_at owed p.number) asked
 
 -- so of each thread that is not settled
-abbrev pub owe_all : ℕ → Weights → Settled → List ℕ → List ProgramView → Bool
-owe_all priority w s owed programs =
-    list_all (λ p. is_some (input_at s.inputs.items p.number) || points_pass (λ point. owes_so priority w owed p (point + 1)) 0 p.points.items) programs
+abbrev pub owe_all : ℕ → Weights → Settled → List ℕ → List ℕ → List ProgramView → Bool
+owe_all priority w s taken owed programs =
+    list_all (λ p. is_some (input_at s.inputs.items p.number) || points_pass (λ point. owes_so priority w taken owed p (point + 1)) 0 p.points.items) programs
 
 -- ---- what may be left at rest
 
@@ -108,6 +109,6 @@ rest_seen w taken lines owed programs bells =
 -- rates of lines that there are, and what comes from below, at what may be left at rest and what interrupts cost
 abbrev pub sums_fit : ℕ → List Rate → Weights → List ℕ → List ProgramView → List (Option Bell) → ℕ → ℕ → ℕ → ℕ → Bool
 sums_fit priority rates w taken programs bells rest costs most steps =
-    fit_rings priority (is_taken_among taken) (price_in w.prices.items) rest most programs
+    fit_steps priority (is_taken_among taken) (price_in w.prices.items) rest most programs
     && (list_all (is_rated w.prices.items bells rates) (range_with_len 0 64)
     && (list_all (λ r. nat_lt r.line 64) rates && (nat_le rest most && nat_le (most + costs) steps)))

@@ -81,5 +81,5 @@ are_paid priority w s taken tended owed programs bells =
     list_all (is_priced w.prices.items) w.prices.items
     && (pay_all w priority programs
     && (are_settled priority s programs
-    && (owe_all priority w s owed programs
+    && (owe_all priority w s taken owed programs
     && (list_all (is_input_there s programs) taken && list_all (is_tended s programs bells) tended))))

@@ -7,7 +7,7 @@ ghost use Rattle.responses.specs.Found.{rate_of};
 
 use crate::checks::Claim;
 use crate::finding::{
-    PlacedPoint, acknowledged_lines, inputs_of, owed_for, rung_below, steps_for, tended_lines,
+    PlacedPoint, acknowledged_lines, inputs_of, owed_for, set_going_below, steps_for, tended_lines,
     unrated, weights_for,
 };
 use crate::lines::LINES;
@@ -131,7 +131,14 @@ impl Levels<'_, '_> {
         let bells = self.bells.as_slice();
         let lines = acknowledged_lines(alloc, programs, bells, priority)?;
         let tended = tended_lines(alloc, programs, bells, &settled)?;
-        let owed = owed_for(alloc, &weights, priority, &settled, programs)?;
+        let owed = owed_for(
+            alloc,
+            &weights,
+            priority,
+            &settled,
+            taken.as_slice(),
+            programs,
+        )?;
         Ok(Ok(Level {
             weights,
             settled,
@@ -146,7 +153,8 @@ impl Levels<'_, '_> {
     fn numbers(&self, claim: &Claim<'_>) -> Option<Numbers> {
         let programs = self.programs.as_slice();
         let bells = self.bells.as_slice();
-        let most_at_rest = self.rest(claim)?.checked_add(rung_below(claim, programs))?;
+        let below = set_going_below(claim, programs);
+        let most_at_rest = self.rest(claim)?.checked_add(below)?;
         let left = left_at_start(claim.weights, claim.priority, programs)?;
         let most_at_first = most_at_rest.max(left);
         Some(Numbers {

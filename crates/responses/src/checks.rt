@@ -1,10 +1,10 @@
 //! The test of weights and numbers for a level of an image.
 
-ghost use Rattle.std.specs.Prelude.{◌≡◌, ◌+◌, ◌==◌, ◌||◌, IfSome, map, nat_le, nat_lt};
+ghost use Rattle.std.specs.Prelude.{◌≡◌, ◌+◌, ◌==◌, ◌||◌, IfSome, if◌then◌else◌, map, nat_le, nat_lt, not};
 ghost use Rattle.std.specs.List.{list_all, list_any, range_with_len};
 ghost use Rattle.model.specs.Shared.Lists.{times_in};
-ghost use Rattle.response.specs.Responding.{ring_fits};
-ghost use Rattle.responses.specs.Checks.{acknowledged_by, fit_rings, going_to, is_acknowledged, is_high, is_priced, is_rated};
+ghost use Rattle.response.specs.Owed.{step_fits};
+ghost use Rattle.responses.specs.Checks.{acknowledged_by, fit_steps, going_to, is_acknowledged, is_high, is_priced, is_rated};
 ghost use Rattle.responses.specs.Checks.{is_taken_among, left_to, owe_all, owes_so, pay_all, rest_seen, sums_fit};
 ghost use Rattle.responses.specs.Found.{number_at, price_in};
 ghost use Rattle.responses.specs.Seen.{asked, points_pass, view_passes};
@@ -16,7 +16,7 @@ use crate::doors::is_input;
 use crate::edge_checks::EdgeTest;
 use crate::lines::{Bell, LINES, bell_at};
 use crate::settled::Settled;
-use crate::sums::{is_high, lines_at_rest, owed_at_rest, price_of_line, words_at_rest};
+use crate::sums::{is_high, lines_at_rest, owed_at_rest, price_of_line, unless, words_at_rest};
 use crate::weights::{AcknowledgedLine, Price, Weights, all_fit, fits, is_one_of, number_at};
 use program_rules::{PointView, ProgramView};
 
@@ -211,33 +211,37 @@ pub(crate) fn tend_all(
         .all(|line| is_tended(settled, programs, bells, line))
 }
 
-/// Where rings from below are looked at: what may be left at rest, and at most.
+/// Where steps of threads below are looked at: what may be left at rest, and at most.
 #[derive(Clone, Copy)]
-pub(crate) struct Rings<'c> {
+pub(crate) struct Below<'c> {
     pub(crate) weights: &'c Weights,
     pub(crate) taken: &'c [u32],
     pub(crate) rest: u64,
     pub(crate) most: u64,
 }
 
-impl Rings<'_> {
+impl Below<'_> {
+    /// Whether what comes to an object fits: nothing is counted at rest where it is taken at once.
+    fn has_room(&self, object: u32) -> bool
+        ensures { result ≡ (not (is_taken_among self.now.taken.now object) || nat_le (self.now.rest + price_in self.now.weights.now.prices.items object) self.now.most) }
+    {
+        !is_one_of(self.taken, object) || fits(self.rest, self.weights.price_of(object), self.most)
+    }
+
     /// Whether what a point asks fits.
     fn fits(&self, ask: Ask) -> bool
-        ensures { result ≡ ring_fits (is_taken_among self.now.taken.now) (price_in self.now.weights.now.prices.items) self.now.rest self.now.most (asked ask) }
+        ensures { result ≡ step_fits (is_taken_among self.now.taken.now) (price_in self.now.weights.now.prices.items) self.now.rest self.now.most (asked ask) }
     {
         match ask {
-            Ask::Rings(object) => {
-                !is_one_of(self.taken, object)
-                    || fits(self.rest, self.weights.price_of(object), self.most)
-            }
+            Ask::Rings(object) => self.has_room(object),
+            Ask::SendsTo(object) => self.has_room(object),
+            Ask::Calls(object) => self.has_room(object),
+            Ask::Tries(object) => self.has_room(object),
             Ask::Takes(_) => true,
             Ask::Polls(_) => true,
             Ask::Acknowledges(_) => true,
             Ask::Accepts { .. } => true,
             Ask::Looks(_) => true,
-            Ask::SendsTo(_) => true,
-            Ask::Calls(_) => true,
-            Ask::Tries(_) => true,
             Ask::Answers => true,
             Ask::Nothing => true,
         }
@@ -245,7 +249,7 @@ impl Rings<'_> {
 
     /// Whether what is seen of a point does.
     fn holds_at(&self, view: &PointView) -> bool
-        ensures { result ≡ view_passes (ring_fits (is_taken_among self.now.taken.now) (price_in self.now.weights.now.prices.items) self.now.rest self.now.most)
+        ensures { result ≡ view_passes (step_fits (is_taken_among self.now.taken.now) (price_in self.now.weights.now.prices.items) self.now.rest self.now.most)
             view.now }
     {
         match view {
@@ -258,14 +262,14 @@ impl Rings<'_> {
     /// Whether all points do.
     fn holds_for(&self, points: &[PointView]) -> bool
         ensures { result ≡ list_all (view_passes
-            (ring_fits (is_taken_among self.now.taken.now) (price_in self.now.weights.now.prices.items) self.now.rest self.now.most)) points.now }
+            (step_fits (is_taken_among self.now.taken.now) (price_in self.now.weights.now.prices.items) self.now.rest self.now.most)) points.now }
     {
         points.iter().all(|view| self.holds_at(view))
     }
 
-    /// Whether all points of threads below do.
-    pub(crate) fn hold_below(&self, priority: u32, programs: &[ProgramView]) -> bool
-        ensures { result ≡ fit_rings priority (is_taken_among self.now.taken.now)
+    /// Whether all points of threads below a priority do.
+    pub(crate) fn hold(&self, priority: u32, programs: &[ProgramView]) -> bool
+        ensures { result ≡ fit_steps priority (is_taken_among self.now.taken.now)
             (price_in self.now.weights.now.prices.items) self.now.rest self.now.most programs.now }
     {
         programs.iter().all(|program| is_high(priority, program)
@@ -279,6 +283,8 @@ pub(crate) struct Waits<'c> {
     pub(crate) weights: &'c Weights,
     pub(crate) priority: u32,
     pub(crate) settled: &'c Settled,
+    /// Inputs of settled threads: nobody waits to send there.
+    pub(crate) taken: &'c [u32],
     pub(crate) owed: &'c [u64],
 }
 
@@ -296,21 +302,37 @@ impl Waits<'_> {
         }
     }
 
-    /// Whether a message that is tried, and may be left by a thread below, is what the thread may wait with.
-    fn leaves(&self, program: &ProgramView, price: u64) -> bool
-        ensures { result ≡ (is_high self.now.priority program.now || nat_le price (number_at self.now.owed.now program.now.number)) }
+    /// Whether a message to an object is, if it may wait there.
+    fn sends_to(&self, program: &ProgramView, next: usize, object: u32) -> bool
+        ensures { result ≡ (is_taken_among self.now.taken.now object || nat_le (price_in self.now.weights.now.prices.items object + going_to self.now.priority self.now.weights.now program.now next) (number_at self.now.owed.now program.now.number)) }
     {
-        is_high(self.priority, program) || price <= number_at(self.owed, program.number as usize)
+        is_one_of(self.taken, object) || self.sends(program, next, self.weights.price_of(object))
+    }
+
+    /// What a message to an object costs that may wait there.
+    fn waiting_price(&self, object: u32) -> u64
+        ensures { result ≡ (if is_taken_among self.now.taken.now object then 0 else price_in self.now.weights.now.prices.items object) }
+    {
+        unless(is_one_of(self.taken, object), self.weights.price_of(object))
+    }
+
+    /// Whether a message that is tried, and may be left by a thread below, is what the thread may wait with.
+    fn leaves(&self, program: &ProgramView, object: u32) -> bool
+        ensures { result ≡ (is_high self.now.priority program.now || is_taken_among self.now.taken.now object || nat_le (price_in self.now.weights.now.prices.items object) (number_at self.now.owed.now program.now.number)) }
+    {
+        is_high(self.priority, program)
+            || is_one_of(self.taken, object)
+            || self.weights.price_of(object) <= number_at(self.owed, program.number as usize)
     }
 
     /// Whether what a point asks before this one is.
     fn fits(&self, program: &ProgramView, next: usize, ask: Ask) -> bool
-        ensures { result ≡ owes_so self.now.priority self.now.weights.now self.now.owed.now program.now next (asked ask) }
+        ensures { result ≡ owes_so self.now.priority self.now.weights.now self.now.taken.now self.now.owed.now program.now next (asked ask) }
     {
         match ask {
-            Ask::SendsTo(object) => self.sends(program, next, self.weights.price_of(object)),
-            Ask::Calls(object) => self.sends(program, next, self.weights.price_of(object)),
-            Ask::Tries(object) => self.leaves(program, self.weights.price_of(object)),
+            Ask::SendsTo(object) => self.sends_to(program, next, object),
+            Ask::Calls(object) => self.sends(program, next, self.waiting_price(object)),
+            Ask::Tries(object) => self.leaves(program, object),
             Ask::Takes(_) => true,
             Ask::Polls(_) => true,
             Ask::Rings(_) => true,
@@ -324,7 +346,7 @@ impl Waits<'_> {
 
     /// Whether what is seen of a point before this one is.
     fn holds_at(&self, program: &ProgramView, next: usize, view: &PointView) -> bool
-        ensures { result ≡ view_passes (owes_so self.now.priority self.now.weights.now self.now.owed.now program.now next) view.now }
+        ensures { result ≡ view_passes (owes_so self.now.priority self.now.weights.now self.now.taken.now self.now.owed.now program.now next) view.now }
     {
         match view {
             PointView::Unknown => true,
@@ -335,7 +357,8 @@ impl Waits<'_> {
 
     /// Whether all points of a program are.
     fn holds_for(&self, program: &ProgramView) -> bool
-        ensures { result ≡ points_pass (λ point. owes_so self.now.priority self.now.weights.now self.now.owed.now program.now (point + 1)) 0
+        ensures { result ≡ points_pass
+            (λ point. owes_so self.now.priority self.now.weights.now self.now.taken.now self.now.owed.now program.now (point + 1)) 0
             program.now.points.items }
     {
         let points = program.points.as_slice();
@@ -349,7 +372,7 @@ impl Waits<'_> {
 
     /// Whether all points of all programs are whose threads are not settled.
     pub(crate) fn hold(&self, programs: &[ProgramView]) -> bool
-        ensures { result ≡ owe_all self.now.priority self.now.weights.now self.now.settled.now self.now.owed.now programs.now }
+        ensures { result ≡ owe_all self.now.priority self.now.weights.now self.now.settled.now self.now.taken.now self.now.owed.now programs.now }
     {
         programs.iter().all(|program| self.settled.input(program.number).is_some()
             || self.holds_for(program))
@@ -426,6 +449,7 @@ impl Claim<'_> {
             weights: self.weights,
             priority: self.priority,
             settled: self.settled,
+            taken: self.taken,
             owed: self.owed,
         };
         are_priced(self.weights)
@@ -448,13 +472,13 @@ impl Claim<'_> {
         ensures { result ≡ sums_fit self.now.priority self.now.rates.now self.now.weights.now self.now.taken.now programs.now bells.now sums.now.rest
             sums.now.costs most steps }
     {
-        let rings = Rings {
+        let below = Below {
             weights: self.weights,
             taken: self.taken,
             rest: sums.rest,
             most,
         };
-        rings.hold_below(self.priority, programs)
+        below.hold(self.priority, programs)
             && are_rated(self.weights, bells, self.rates)
             && are_of_lines(self.rates)
             && sums.rest <= most

@@ -9,7 +9,7 @@ use crate::edge_checks::point_at;
 use crate::lines::{Bell, LINES};
 use crate::marks::marks_of;
 use crate::settled::Settled;
-use crate::sums::{costs_within, is_high};
+use crate::sums::{costs_within, is_high, unless};
 use crate::weights::{AcknowledgedLine, Price, Weights, is_one_of};
 use program_rules::{PointView, ProgramView, SeenPoint};
 use std::alloc::{AllocError, Global};
@@ -226,40 +226,52 @@ pub(crate) fn weights_for(
     Ok(Err(rising.last))
 }
 
-/// What a thread may wait with at a point that asks this: its message, and what it goes on with after it.
-fn waited_with(
-    weights: &Weights,
+/// Messages that may wait at rest: at no input of a settled thread, which takes them at once.
+#[derive(Clone, Copy)]
+struct Messages<'c> {
+    weights: &'c Weights,
     priority: u32,
-    program: &ProgramView,
-    point: usize,
-    ask: Ask,
-) -> u64 {
-    let is_of_level = is_high(priority, program);
-    match ask {
-        Ask::SendsTo(object) | Ask::Calls(object) => {
-            let price = weights.price_of(object);
-            if !is_of_level {
-                return price;
-            }
-            let still = weights.still(program.number, point.saturating_add(1));
-            price
-                .saturating_add(program.header.budget)
-                .saturating_add(still)
-        }
-        Ask::Tries(object) if !is_of_level => weights.price_of(object),
-        _ => 0,
-    }
+    /// Inputs of settled threads.
+    taken: &'c [u32],
 }
 
-/// The most that a thread may wait with at rest.
-fn owed_by(weights: &Weights, priority: u32, program: &ProgramView) -> u64 {
-    let mut most = 0u64;
-    for point in 0..program.points.len() {
-        if let PointView::Seen(seen) = &program.points[point] {
-            most = waited_with(weights, priority, program, point, ask_of(seen)).max(most);
+impl Messages<'_> {
+    /// What a message costs that may wait at an object.
+    fn price(&self, object: u32) -> u64 {
+        unless(is_one_of(self.taken, object), self.weights.price_of(object))
+    }
+
+    /// What a thread runs and sets going once it goes on from a point, if it is of the level.
+    fn going_on(&self, program: &ProgramView, point: usize) -> u64 {
+        if !is_high(self.priority, program) {
+            return 0;
+        }
+        let still = self.weights.still(program.number, point.saturating_add(1));
+        program.header.budget.saturating_add(still)
+    }
+
+    /// What a thread may wait with at a point that asks this: its message, and what it goes on with after it.
+    fn waited_with(&self, program: &ProgramView, point: usize, ask: Ask) -> u64 {
+        match ask {
+            Ask::SendsTo(object) if is_one_of(self.taken, object) => 0,
+            Ask::SendsTo(object) | Ask::Calls(object) => self
+                .price(object)
+                .saturating_add(self.going_on(program, point)),
+            Ask::Tries(object) if !is_high(self.priority, program) => self.price(object),
+            _ => 0,
         }
     }
-    most
+
+    /// The most that a thread may wait with at rest.
+    fn owed_by(&self, program: &ProgramView) -> u64 {
+        let mut most = 0u64;
+        for point in 0..program.points.len() {
+            if let PointView::Seen(seen) = &program.points[point] {
+                most = self.waited_with(program, point, ask_of(seen)).max(most);
+            }
+        }
+        most
+    }
 }
 
 /// What each thread may wait with at rest, to send or for an answer: one that is settled with nothing. Memory may be refused.
@@ -268,14 +280,20 @@ pub(crate) fn owed_for(
     weights: &Weights,
     priority: u32,
     settled: &Settled,
+    taken: &[u32],
     programs: &[ProgramView],
 ) -> Result<Vec<u64>, AllocError> {
+    let messages = Messages {
+        weights,
+        priority,
+        taken,
+    };
     let mut owed = Vec::new(alloc);
     for program in programs {
         let most = if settled.input(program.number).is_some() {
             0
         } else {
-            owed_by(weights, priority, program)
+            messages.owed_by(program)
         };
         owed.push(most)?;
     }
@@ -378,14 +396,24 @@ pub(crate) fn tended_lines(
     Ok(lines)
 }
 
-/// The greatest price of what a point below rings, where a thread of the level rests.
-pub(crate) fn rung_below(claim: &Claim<'_>, programs: &[ProgramView]) -> u64 {
+/// Where a word or a message comes to that a point brings.
+fn comes_to(ask: Ask) -> Option<u32> {
+    match ask {
+        Ask::Rings(object) | Ask::SendsTo(object) | Ask::Calls(object) | Ask::Tries(object) => {
+            Some(object)
+        }
+        _ => None,
+    }
+}
+
+/// The greatest price of what a point below brings to where a settled thread rests.
+pub(crate) fn set_going_below(claim: &Claim<'_>, programs: &[ProgramView]) -> u64 {
     let mut greatest = 0;
     for program in programs {
         if !is_high(claim.priority, program) {
             for view in program.points.as_slice() {
                 if let PointView::Seen(seen) = view {
-                    if let Ask::Rings(object) = ask_of(seen) {
+                    if let Some(object) = comes_to(ask_of(seen)) {
                         if is_one_of(claim.taken, object) {
                             greatest = claim.weights.price_of(object).max(greatest);
                         }

@@ -16,8 +16,8 @@ pub enum Reason {
     Pending { line: u32 },
     /// What a thread waits with, to send or for an answer.
     WaitsWith { thread: u32 },
-    /// What one step of a thread below rings.
-    RungBelow,
+    /// What one step of a thread below sets going.
+    FromBelow,
     /// So many interrupts of this line.
     Comes { line: u32, times: u64 },
 }
@@ -100,7 +100,7 @@ impl Bound {
         };
         self.put_rest(levels, &mut shares)?;
         let below = self.most_at_rest.saturating_sub(shares.total());
-        shares.put(Reason::RungBelow, below)?;
+        shares.put(Reason::FromBelow, below)?;
         for rate in rates {
             let line = rate.line;
             let times = times_within(rate, self.later);

@@ -12,7 +12,7 @@ use crate::weights::{AcknowledgedLine, Price, Weights, is_one_of, number_at};
 use program_rules::ProgramView;
 
 /// A price, or nothing where that is said.
-fn unless(is_free: bool, price: u64) -> u64
+pub(crate) fn unless(is_free: bool, price: u64) -> u64
     ensures { result ≡ (if is_free then 0 else price) }
 {
     if is_free { 0 } else { price }
