@@ -223,7 +223,8 @@ pub(crate) struct Below<'c> {
 impl Below<'_> {
     /// Whether what comes to an object fits: nothing is counted at rest where it is taken at once.
     fn has_room(&self, object: u32) -> bool
-        ensures { result ≡ (not (is_taken_among self.now.taken.now object) || nat_le (self.now.rest + price_in self.now.weights.now.prices.items object) self.now.most) }
+        ensures { result ≡ (not (is_taken_among self.now.taken.now object)
+            || nat_le (self.now.rest + price_in self.now.weights.now.prices.items object) self.now.most) }
     {
         !is_one_of(self.taken, object) || fits(self.rest, self.weights.price_of(object), self.most)
     }
@@ -304,7 +305,9 @@ impl Waits<'_> {
 
     /// Whether a message to an object is, if it may wait there.
     fn sends_to(&self, program: &ProgramView, next: usize, object: u32) -> bool
-        ensures { result ≡ (is_taken_among self.now.taken.now object || nat_le (price_in self.now.weights.now.prices.items object + going_to self.now.priority self.now.weights.now program.now next) (number_at self.now.owed.now program.now.number)) }
+        ensures { result ≡ (is_taken_among self.now.taken.now object
+            || nat_le (price_in self.now.weights.now.prices.items object + going_to self.now.priority self.now.weights.now program.now next)
+            (number_at self.now.owed.now program.now.number)) }
     {
         is_one_of(self.taken, object) || self.sends(program, next, self.weights.price_of(object))
     }
@@ -318,7 +321,8 @@ impl Waits<'_> {
 
     /// Whether a message that is tried, and may be left by a thread below, is what the thread may wait with.
     fn leaves(&self, program: &ProgramView, object: u32) -> bool
-        ensures { result ≡ (is_high self.now.priority program.now || is_taken_among self.now.taken.now object || nat_le (price_in self.now.weights.now.prices.items object) (number_at self.now.owed.now program.now.number)) }
+        ensures { result ≡ (is_high self.now.priority program.now || is_taken_among self.now.taken.now object
+            || nat_le (price_in self.now.weights.now.prices.items object) (number_at self.now.owed.now program.now.number)) }
     {
         is_high(self.priority, program)
             || is_one_of(self.taken, object)
