@@ -10,6 +10,7 @@ mod PointLists
 mod LeftNext
 mod ShownParts
 mod MappedSoFar
+mod Walked
 mod Outcomes
 mod OwnKept
 mod Spelled

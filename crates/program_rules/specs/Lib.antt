@@ -9,3 +9,6 @@ pub mod Propositions
 pub mod Visits
 pub mod Walks
 pub mod Views
+pub mod OfPrograms
+pub mod Reads
+pub mod ReachedPages

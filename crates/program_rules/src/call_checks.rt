@@ -1,19 +1,13 @@
 //! The rules on a point's system call, and on the way on after it.
 
-ghost use Rattle.std.specs.Prelude.{◌≡◌, ◌+◌, ◌<◌, IfOk, Some};
-ghost use Rattle.measure.specs.Measures.{measure_of};
-ghost use Rattle.model.specs.Acceptance.PointRules.{call_edge, edge_rules, noted_at};
-ghost use Rattle.model.specs.Acceptance.PointStates.{address_of, instruction_at, point_of};
+ghost use Rattle.std.specs.Prelude.{◌≡◌, ◌<◌, IfOk, Some};
 ghost use Rattle.model.specs.Acceptance.Rules.{first_broken};
 ghost use Rattle.model.specs.declared.instructions.Instr.TheVariants.{Ecall};
-ghost use Rattle.program_rules.specs.Kept.{IsKeptAt, IsRead, state_by};
-ghost use Rattle.program_rules.specs.PointChecks.{later_rules};
-ghost use Rattle.program_rules.specs.Programs.{thread_of};
-ghost use Rattle.program_rules.specs.declared.at_points.AtPoint.TheVariants as kept;
-ghost use Rattle.typestate.specs.Calls.{behind_with};
-ghost use Rattle.typestate.specs.Logs.{KeepsParts, Shows, ShowsSome, part_of};
-ghost use Rattle.wellformed.specs.Answering.{Answers};
+ghost use Rattle.program_rules.specs.OfPrograms.{AreRead, call_way_rules, replayed_for, state_for, words_of};
+ghost use Rattle.program_rules.specs.Visits.{IsShownHere, instruction_here, later_rules_here, slots_seen};
+ghost use Rattle.typestate.specs.Logs.{KeepsParts, ShowsSome, part_of};
 ghost use Rattle.typestate.specs.Replays.{replayed};
+ghost use Rattle.wellformed.specs.Answering.{Answers};
 
 use crate::kept::Known;
 use crate::point_rules::{Way, registers_of};
@@ -29,13 +23,8 @@ impl Seen<'_, '_, '_, '_, '_> {
     /// Whether the way on after a system call at a point that leaves this, and these slots, keeps its rules: an `Err` names the first
     /// that it breaks, or says that memory was refused.
     fn way_behind(&self, point: u32, known: &Known, behind: &Behind) -> Result<(), Refusal>
-        requires { point < self.now.program.now.given.space.thread.now.header.words }
-        ensures { Answers (first_broken (edge_rules self.now.program.now.given.space.thread.now (point_of (thread_of self.now.program.now) point)
-            (measure_of known.now.measure)
-            (call_edge (address_of self.now.program.now.given.space.thread.now point) known.now.bounds
-            (behind_with (replayed self.now.program.now.given.slots.now (part_of self.now.points.now.log self.now.part)) behind.now))
-            (noted_at self.now.program.now.given.space.image.now (thread_of self.now.program.now)
-            (address_of self.now.program.now.given.space.thread.now point + 4)))) result }
+        requires { point < words_of self.now.program.now }
+        ensures { Answers (first_broken (call_way_rules self.now.program.now point known.now (slots_seen self.now) behind.now)) result }
     {
         let way = Way {
             at: self.program.at(point),
@@ -65,18 +54,11 @@ impl<'a> Visit<'_, '_, 'a, '_> {
         behind: &Behind,
         made: &[LogEntry],
     ) -> Result<(), Refusal>
-        requires read { IsRead self.now.program.now.given.space.image.now
-            (thread_of self.now.program.now) self.now.program.now.given.slots.now points.old.log points.old.kept }
-        requires shown { Shows points.old.log known.now.part shown.old }
+        requires { IsShownHere self.now points.old known.now shown.old }
         ensures shown { IfOk result (λ _. ShowsSome points.new.log shown.new) }
-        ensures broken { Answers (first_broken (edge_rules self.now.program.now.given.space.thread.now
-            (point_of (thread_of self.now.program.now) self.now.point) (measure_of known.now.measure)
-            (call_edge (address_of self.now.program.now.given.space.thread.now self.now.point) known.now.bounds
-            (behind_with (replayed (replayed self.now.program.now.given.slots.now (part_of points.old.log known.now.part)) made.now) behind.now))
-            (noted_at self.now.program.now.given.space.image.now (thread_of self.now.program.now)
-            (address_of self.now.program.now.given.space.thread.now self.now.point + 4)))) result }
-        ensures read { IfOk result (λ _. IsRead self.now.program.now.given.space.image.now
-            (thread_of self.now.program.now) self.now.program.now.given.slots.now points.new.log points.new.kept) }
+        ensures broken { Answers (first_broken (call_way_rules self.now.program.now self.now.point known.now
+            (replayed (replayed_for self.now.program.now (part_of points.old.log known.now.part)) made.now) behind.now)) result }
+        ensures read { IfOk result (λ _. AreRead self.now.program.now points.new) }
         ensures others { IfOk result (λ _. KeepsParts points.old.log points.new.log) }
     {
         let part = points.log.follow(known.part, made)?;
@@ -98,17 +80,11 @@ impl<'a> Visit<'_, '_, 'a, '_> {
         shown: &mut ShownPart,
         known: &Known,
     ) -> Result<(), Refusal>
-        requires read { IsRead self.now.program.now.given.space.image.now
-            (thread_of self.now.program.now) self.now.program.now.given.slots.now points.old.log points.old.kept }
-        requires is { instruction_at self.now.program.now.given.space.thread.now self.now.point ≡ Some Ecall }
-        requires kept { IsKeptAt self.now.program.now.given.space.image.now
-            (thread_of self.now.program.now) self.now.program.now.given.slots.now points.old.log self.now.point (kept.Known known.now) }
-        requires shown { Shows points.old.log known.now.part shown.old }
+        requires { IsShownHere self.now points.old known.now shown.old }
         ensures shown { IfOk result (λ _. ShowsSome points.new.log shown.new) }
-        ensures broken { Answers (first_broken (later_rules self.now.program.now.given.space.image.now (thread_of self.now.program.now) self.now.point
-            (state_by self.now.program.now.given.slots.now points.old.log known.now) (Some Ecall))) result }
-        ensures read { IfOk result (λ _. IsRead self.now.program.now.given.space.image.now
-            (thread_of self.now.program.now) self.now.program.now.given.slots.now points.new.log points.new.kept) }
+        ensures broken { instruction_here self.now ≡ Some Ecall
+            → Answers (first_broken (later_rules_here self.now (state_for self.now.program.now points.old.log known.now) (Some Ecall))) result }
+        ensures read { IfOk result (λ _. AreRead self.now.program.now points.new) }
         ensures others { IfOk result (λ _. KeepsParts points.old.log points.new.log) }
     {
         if self.leaves_next(points) {

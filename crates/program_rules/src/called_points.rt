@@ -4,6 +4,7 @@ ghost use Rattle.std.specs.Prelude.{◌≡◌, ◌^◌, ◌-◌, ◌≤ℤ◌, [
 ghost use Rattle.measure.specs.Measures.{measure_of};
 ghost use Rattle.model.specs.Acceptance.CallRules.{with_message};
 ghost use Rattle.program_rules.specs.Kept.{AreOne, IsCalled, Leads, measure_behind, ranges_behind};
+ghost use Rattle.program_rules.specs.OfPrograms.{budget_of};
 
 use crate::kept::Known;
 use crate::places::{CalledPoint, ShortPart};
@@ -127,7 +128,7 @@ impl CalledPoint {
     fn measure(&self, program: &Program<'_, '_>, measure: &Measure) -> Option<Measure>
         ensures some { negsuc (2 ^ 63 - 2) ≤ℤ (measure_of measure.now).constant → is_some result ≡ true }
         ensures measure { IfSome result (λ next. measure_of next
-            ≡ measure_behind program.now.given.space.thread.now.header.budget self.now.is_wait (measure_of measure.now)) }
+            ≡ measure_behind (budget_of program.now) self.now.is_wait (measure_of measure.now)) }
     {
         if self.is_wait {
             return Some(Measure::new(program.given.space.thread.header().budget as i64));
@@ -141,7 +142,7 @@ impl CalledPoint {
     /// The state after the call, if its measure is in range.
     pub(crate) fn behind(&self, program: &Program<'_, '_>, known: &Known) -> Option<Known>
         ensures some { negsuc (2 ^ 63 - 2) ≤ℤ (measure_of known.now.measure).constant → is_some result ≡ true }
-        ensures called { IfSome result (IsCalled program.now.given.space.thread.now.header.budget self.now known.now) }
+        ensures called { IfSome result (IsCalled (budget_of program.now) self.now known.now) }
     {
         let measure = self.measure(program, &known.measure)?;
         Some(Known {
@@ -160,7 +161,7 @@ impl CalledPoint {
         before: &Known,
         after: &Known,
     ) -> Option<Self>
-        ensures { IfSome result (λ called. Leads program.now.given.space.thread.now.header.budget called before.now after.now) }
+        ensures { IfSome result (λ called. Leads (budget_of program.now) called before.now after.now) }
     {
         let anew = Measure::new(program.given.space.thread.header().budget as i64);
         let called = CalledPoint {
@@ -180,7 +181,7 @@ impl CalledPoint {
 
     /// The call that leads from one state to another one, if there is one.
     pub(crate) fn between(program: &Program<'_, '_>, before: &Known, after: &Known) -> Option<Self>
-        ensures { IfSome result (λ called. Leads program.now.given.space.thread.now.header.budget called before.now after.now) }
+        ensures { IfSome result (λ called. Leads (budget_of program.now) called before.now after.now) }
     {
         let part = ShortPart::of(after.part)?;
         'forms: for written in &FORMS {

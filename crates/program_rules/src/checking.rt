@@ -1,8 +1,9 @@
 //! The programs of all threads, in their order.
 
 ghost use Rattle.model.specs.Acceptance.Accepted.{IsWellFormed};
-ghost use Rattle.model.specs.Acceptance.PointRules.{program_rules, rules_of_program};
+ghost use Rattle.model.specs.Acceptance.PointRules.{program_rules};
 ghost use Rattle.model.specs.Acceptance.Rules.{first_broken};
+ghost use Rattle.program_rules.specs.OfPrograms.{rules_given, rules_placed};
 ghost use Rattle.typestate.specs.Promises.{AreOfImage};
 ghost use Rattle.wellformed.specs.Answering.{Answers};
 
@@ -20,8 +21,7 @@ use typestate::PlacedPromises;
 
 /// The rules on the program of a thread, by what the image gives the thread.
 fn check_given(alloc: Global, given: GivenThread<'_, '_>) -> Result<(), Refusal>
-    ensures { Answers (first_broken (rules_of_program given.entry.space.image.now
-        (record { number = given.entry.number; thread = given.entry.space.thread.now }))) result }
+    ensures { Answers (first_broken (rules_given given.entry)) result }
 {
     let image = given.space.image;
     let thread = given.space.thread;
@@ -46,8 +46,7 @@ fn check_program<'a>(
     owner: PlacedThread<'_, '_, '_, 'a>,
 ) -> Result<(), Refusal>
     requires { AreOfImage owner.placed.now.image.now promises.now }
-    ensures { Answers (first_broken (rules_of_program owner.entry.placed.now.image.now
-        (record { number = owner.entry.number; thread = owner.entry.thread.now }))) result }
+    ensures { Answers (first_broken (rules_placed owner.entry)) result }
 {
     let parts = ThreadParts::of(alloc, owner)?;
     check_given(alloc, parts.given(promises))

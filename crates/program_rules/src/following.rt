@@ -4,12 +4,14 @@ ghost use Rattle.std.specs.Prelude.{ℕ, ◌≡◌, ◌≢◌, ◌+◌, ◌<◌,
 ghost use Rattle.measure.specs.Measures.{measure_of};
 ghost use Rattle.model.specs.Acceptance.Edges.{after};
 ghost use Rattle.model.specs.Acceptance.NotedStates.{NotedSlot};
-ghost use Rattle.model.specs.Acceptance.PointStates.{address_of, call_at, follows, follows_call, follows_edge, instruction_at};
+ghost use Rattle.model.specs.Acceptance.PointStates.{follows_edge};
 ghost use Rattle.model.specs.Images.Image.{Image, Thread};
 ghost use Rattle.model.specs.Machine.Instructions.{IsInstr};
 ghost use Rattle.model.specs.declared.instructions.Instr.TheVariants.{Ecall};
-ghost use Rattle.program_rules.specs.Kept.{IsCleanIn, IsKeptAt, IsLookedAt, IsSound, ShowsKept, kept_as, noted_by, passed_as, state_by};
-ghost use Rattle.program_rules.specs.Programs.{thread_of};
+ghost use Rattle.program_rules.specs.Kept.{IsCleanIn, IsSound, ShowsKept, kept_as, noted_by, passed_as, state_by};
+ghost use Rattle.program_rules.specs.OfPrograms.{IsCleanFor, address_for, noted_for, words_of};
+ghost use Rattle.program_rules.specs.Reads.{IsCleanRead, IsKeptRead, instruction_read, left_read, noted_read};
+ghost use Rattle.program_rules.specs.Visits.{IsLookedAtHere, behind_here, left_here};
 ghost use Rattle.program_rules.specs.declared.at_points.AtPoint.TheVariants as kept;
 ghost use Rattle.program_rules.specs.declared.kept.Known.{Known as State};
 ghost use Rattle.typestate.specs.Logs.{KeepsParts};
@@ -82,8 +84,8 @@ impl AtPoint<Known> {
 impl Program<'_, '_> {
     /// The address of a point.
     pub(crate) fn address(&self, point: u32) -> u32
-        requires within { point < self.now.given.space.thread.now.header.words }
-        ensures { result ≡ address_of self.now.given.space.thread.now point }
+        requires within { point < words_of self.now }
+        ensures { result ≡ address_for self.now point }
     {
         self.given.space.thread.header().base + 4 * point
     }
@@ -92,15 +94,11 @@ impl Program<'_, '_> {
 impl ReadPoint<'_, '_, '_, '_> {
     /// Makes of what is kept of the point, which has no system call, what is kept of the one after it, where no record notes that.
     pub(crate) fn pass_plain(&self, kept: &mut AtPoint<Known>)
-        requires plain { instruction_at self.now.read.program.now.given.space.thread.now self.now.point ≢ Some Ecall }
-        requires kept { IsKeptAt self.now.read.program.now.given.space.image.now
-            (thread_of self.now.read.program.now) self.now.read.program.now.given.slots.now self.now.read.points.now.log self.now.point kept.old }
-        ensures same { noted_by self.now.read.program.now.given.slots.now self.now.read.points.now.log kept.new
-            ≡ follows self.now.read.program.now.given.space.image.now (thread_of self.now.read.program.now) self.now.point
-            (noted_by self.now.read.program.now.given.slots.now self.now.read.points.now.log kept.old) }
+        requires { IsKeptRead self.now kept.old }
+        ensures same { instruction_read self.now ≢ Some Ecall
+            → noted_read self.now kept.new ≡ left_read self.now (noted_read self.now kept.old) }
         ensures sound { IsSound self.now.read.points.now.log (self.now.point + 1) kept.new }
-        ensures clean { IsCleanIn self.now.read.program.now.given.space.image.now self.now.read.program.now.given.space.thread.now
-            self.now.read.program.now.given.slots.now self.now.read.points.now.log kept.new }
+        ensures clean { IsCleanRead self.now kept.new }
     {
         let AtPoint::Known(known) = kept else {
             *kept = AtPoint::Missing;
@@ -119,13 +117,11 @@ impl ReadPoint<'_, '_, '_, '_> {
 impl Visit<'_, '_, '_, '_> {
     /// Adds to what is kept of the point what a look at its slots shows, where nothing is known of them.
     pub(crate) fn look(&self, kept: &mut AtPoint<Known>, log: &SlotLog, shown: &ShownPart)
-        requires { IsLookedAt self.now.program.now.given.space.image.now self.now.program.now.given.space.thread.now self.now.program.now.given.slots.now
-            log.now self.now.point shown.now kept.old }
-        ensures same { noted_by self.now.program.now.given.slots.now log.now kept.new ≡ noted_by self.now.program.now.given.slots.now log.now kept.old }
+        requires { IsLookedAtHere self.now log.now shown.now kept.old }
+        ensures same { noted_for self.now.program.now log.now kept.new ≡ noted_for self.now.program.now log.now kept.old }
         ensures sound { IsSound log.now self.now.point kept.new }
         ensures shown { ShowsKept log.now shown.now kept.new }
-        ensures clean { IsCleanIn self.now.program.now.given.space.image.now self.now.program.now.given.space.thread.now self.now.program.now.given.slots.now
-            log.now kept.new }
+        ensures clean { IsCleanFor self.now.program.now log.now kept.new }
     {
         points_without_stray_slots_have_none();
         if let AtPoint::Known(known) = kept {
@@ -150,15 +146,10 @@ impl Visit<'_, '_, '_, '_> {
         log: &mut SlotLog,
         shown: &ShownPart,
     ) -> Result<AtPoint<Known>, AllocError>
-        requires { IsLookedAt self.now.program.now.given.space.image.now self.now.program.now.given.space.thread.now self.now.program.now.given.slots.now
-            log.old self.now.point shown.now (kept.Known known.now) }
-        ensures same { IfOk result (λ k. noted_by self.now.program.now.given.slots.now log.new k
-            ≡ follows_call self.now.program.now.given.space.thread.now (measure_of known.now.measure)
-            (call_at self.now.program.now.given.space.image.now (thread_of self.now.program.now) self.now.point
-            (state_by self.now.program.now.given.slots.now log.old known.now))) }
+        requires { IsLookedAtHere self.now log.old shown.now (kept.Known known.now) }
+        ensures same { IfOk result (λ k. noted_for self.now.program.now log.new k ≡ behind_here self.now log.old known.now) }
         ensures sound { IfOk result (IsSound log.new (self.now.point + 1)) }
-        ensures clean { IfOk result (IsCleanIn self.now.program.now.given.space.image.now self.now.program.now.given.space.thread.now
-            self.now.program.now.given.slots.now log.new) }
+        ensures clean { IfOk result (IsCleanFor self.now.program.now log.new) }
         ensures others { IfOk result (λ _. KeepsParts log.old log.new) }
     {
         let program = self.program;
@@ -188,15 +179,11 @@ impl Visit<'_, '_, '_, '_> {
         log: &mut SlotLog,
         shown: &ShownPart,
     ) -> Result<(), AllocError>
-        requires { IsLookedAt self.now.program.now.given.space.image.now self.now.program.now.given.space.thread.now self.now.program.now.given.slots.now
-            log.old self.now.point shown.now kept.old }
+        requires { IsLookedAtHere self.now log.old shown.now kept.old }
         ensures same { IfOk result (λ _. self.now.is_next_noted ≡ false
-            → noted_by self.now.program.now.given.slots.now log.new kept.new
-            ≡ follows self.now.program.now.given.space.image.now (thread_of self.now.program.now) self.now.point
-            (noted_by self.now.program.now.given.slots.now log.old kept.old)) }
+            → noted_for self.now.program.now log.new kept.new ≡ left_here self.now (noted_for self.now.program.now log.old kept.old)) }
         ensures sound { IfOk result (λ _. IsSound log.new (self.now.point + 1) kept.new) }
-        ensures clean { IfOk result (λ _. IsCleanIn self.now.program.now.given.space.image.now self.now.program.now.given.space.thread.now
-            self.now.program.now.given.slots.now log.new kept.new) }
+        ensures clean { IfOk result (λ _. IsCleanFor self.now.program.now log.new kept.new) }
         ensures others { IfOk result (λ _. KeepsParts log.old log.new) }
     {
         if self.is_next_noted {

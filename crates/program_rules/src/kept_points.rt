@@ -9,7 +9,7 @@ ghost use Rattle.model.specs.Images.Image.{Image};
 ghost use Rattle.model.specs.Machine.Decoding.{decoded};
 ghost use Rattle.model.specs.declared.instructions.Instr.TheVariants.{Ecall};
 ghost use Rattle.program_rules.specs.Kept.{AreKept, IsAt, IsInRecord, IsKeptAt, IsNextAt, IsWhole, KeepsAll, has_state, is_step, wide};
-ghost use Rattle.program_rules.specs.Programs.{thread_of};
+ghost use Rattle.program_rules.specs.Visits.{IsNextHere, record_here};
 ghost use Rattle.program_rules.specs.declared.at_points.AtPoint.TheVariants as kept;
 ghost use Rattle.program_rules.specs.declared.kept.Known.{Known as State};
 ghost use Rattle.program_rules.specs.declared.places.Place.TheVariants as place;
@@ -164,8 +164,8 @@ impl<'a> KeptPoints<'a> {
     ) -> Result<Place, AllocError>
         ensures same { IfOk result (λ _. self.new.places ≡ self.old.places) }
         ensures others { IfOk result (λ _. KeepsAll self.old self.new) }
-        ensures at { IfOk result (λ place. record_of visit.now.program.now.given.space.thread.now visit.now.point ≡ None
-            → IsNextAt visit.now.program.now.given.space.thread.now self.new before.now visit.now.point (kept.Known known.now) place) }
+        ensures at { IfOk result (λ place. record_here visit.now ≡ None
+            → IsNextHere visit.now self.new before.now (kept.Known known.now) place) }
     {
         let program = visit.program;
         let point = visit.point;
@@ -190,7 +190,7 @@ impl<'a> KeptPoints<'a> {
     ) -> Result<Place, AllocError>
         ensures same { IfOk result (λ _. self.new.places ≡ self.old.places) }
         ensures others { IfOk result (λ _. KeepsAll self.old self.new) }
-        ensures at { IfOk result (IsNextAt visit.now.program.now.given.space.thread.now self.new before.now visit.now.point kept.now) }
+        ensures at { IfOk result (IsNextHere visit.now self.new before.now kept.now) }
     {
         match kept {
             AtPoint::Missing => Ok(Place::Missing),

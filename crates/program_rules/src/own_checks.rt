@@ -12,12 +12,10 @@ ghost use Rattle.model.specs.Acceptance.Rules.{first_broken};
 ghost use Rattle.model.specs.Images.Image.{Image, Thread};
 ghost use Rattle.model.specs.declared.instructions.Instr.{Instr as RuleInstr};
 ghost use Rattle.model.specs.declared.ranges.Range.{Range};
-ghost use Rattle.program_rules.specs.FoundPages.{AreMapped};
-ghost use Rattle.program_rules.specs.PointChecks.{own_rules};
+ghost use Rattle.program_rules.specs.OfPrograms.{NoneStrayFor};
 ghost use Rattle.program_rules.specs.Programs.{thread_of};
+ghost use Rattle.program_rules.specs.Visits.{AreMappedHere, is_unmapped_here, own_rules_here, state_with};
 ghost use Rattle.typestate.specs.Calls.{known_with};
-ghost use Rattle.typestate.specs.Differences.{slots_of};
-ghost use Rattle.typestate.specs.Strays.{NoneStray};
 
 use crate::kept::Known;
 use crate::point_rules::{FoundPages, Pages, ReachedBytes, size_of_load, size_of_store};
@@ -83,13 +81,9 @@ impl VisitedSlots<'_, '_, '_, '_, '_> {
     /// are not asked again, and those that are found now are noted.
     #[tactic(auto, unfolding(model::specs::Acceptance::PointRules::is_unmapped))]
     fn is_unmapped(&self, bounds: &Bounds, found: &mut FoundPages) -> bool
-        requires { AreMapped self.now.visit.program.now.given.space.image.now self.now.visit.program.now.given.space.thread.now
-            (slots_of self.now.slots) found.old }
-        ensures is { (measure : NotedMeasure) → result
-            ≡ is_unmapped self.now.visit.program.now.given.space.image.now self.now.visit.program.now.given.space.thread.now
-            (known_with bounds.now (slots_of self.now.slots) measure) self.now.visit.instr }
-        ensures found { AreMapped self.now.visit.program.now.given.space.image.now self.now.visit.program.now.given.space.thread.now
-            (slots_of self.now.slots) found.new }
+        requires { AreMappedHere self.now found.old }
+        ensures is { (measure : NotedMeasure) → result ≡ is_unmapped_here self.now.visit (state_with self.now bounds.now measure) }
+        ensures found { AreMappedHere self.now found.new }
         ensures part { found.new.part ≡ found.old.part }
     {
         let Some(instr) = self.visit.instr else {
@@ -144,14 +138,11 @@ impl VisitedSlots<'_, '_, '_, '_, '_> {
     /// thread may not have (`CapNotThere`); the measure is at least 1 (`MeasureNotFalling`); and it loads and stores only where it
     /// may (`NotMapped`). Pages that are found mapped are noted.
     pub(crate) fn own_rules(&self, known: &Known, found: &mut FoundPages) -> Result<(), Refusal>
-        requires { AreMapped self.now.visit.program.now.given.space.image.now self.now.visit.program.now.given.space.thread.now
-            (slots_of self.now.slots) found.old }
-        ensures found { AreMapped self.now.visit.program.now.given.space.image.now self.now.visit.program.now.given.space.thread.now
-            (slots_of self.now.slots) found.new }
+        requires { AreMappedHere self.now found.old }
+        ensures found { AreMappedHere self.now found.new }
         ensures part { found.new.part ≡ found.old.part }
-        ensures broken { result_err result ≡ first_broken
-            (own_rules self.now.visit.program.now.given.space.image.now (thread_of self.now.visit.program.now) self.now.visit.point
-            (known_with known.now.bounds (slots_of self.now.slots) (measure_of known.now.measure)) self.now.visit.instr) }
+        ensures broken { result_err result
+            ≡ first_broken (own_rules_here self.now.visit (state_with self.now known.now.bounds (measure_of known.now.measure))) }
     {
         let at = self.visit.program.at(self.visit.point);
         let instr = self.visit.instr;
@@ -179,9 +170,8 @@ impl Visit<'_, '_, '_, '_> {
     /// notes it, it is known that no slot is one that the thread may not have, and the instruction asks for none.
     pub(crate) fn keeps_own_unseen(&self, known: &Known) -> bool
         ensures own { (slots : List NotedSlot) → result ≡ true
-            → (known.now.is_clean ≡ true → NoneStray self.now.program.now.given.space.image.now self.now.program.now.given.space.thread.now slots)
-            → first_broken (own_rules self.now.program.now.given.space.image.now (thread_of self.now.program.now) self.now.point
-            (known_with known.now.bounds slots (measure_of known.now.measure)) self.now.instr) ≡ None }
+            → (known.now.is_clean ≡ true → NoneStrayFor self.now.program.now slots)
+            → first_broken (own_rules_here self.now (known_with known.now.bounds slots (measure_of known.now.measure))) ≡ None }
         ensures ways { (pc : ℕ) (ranges : List Range) (i : RuleInstr) → result ≡ true → self.now.instr ≡ Some i → (after pc i ranges).taken ≡ None }
     {
         if self.noted.is_some() {

@@ -1,11 +1,11 @@
 //! What is noted of all points of a program.
 
-ghost use Rattle.std.specs.Prelude.{ℕ, ◌≡◌, ◌+◌, ◌<◌, IfOk, List, is_some, option_map};
-ghost use Rattle.model.specs.Acceptance.NotedStates.{NotedSlot, image_slots, record_of, record_state};
+ghost use Rattle.std.specs.Prelude.{ℕ, ◌≡◌, ◌+◌, IfOk, List, option_map};
+ghost use Rattle.model.specs.Acceptance.NotedStates.{NotedSlot, image_slots, record_state};
 ghost use Rattle.model.specs.Acceptance.PointStates as states;
 ghost use Rattle.model.specs.Images.Image.{Image, Thread};
-ghost use Rattle.program_rules.specs.Kept.{IsCleanIn, IsRead, IsReadTo, IsSound, noted_by};
-ghost use Rattle.program_rules.specs.Programs.{thread_of};
+ghost use Rattle.program_rules.specs.Kept.{IsCleanIn, IsSound, noted_by};
+ghost use Rattle.program_rules.specs.OfPrograms.{AreRead, IsReadFor};
 ghost use Rattle.typestate.specs.Logs.{KeepsParts, ShowsSome};
 ghost use Rattle.typestate.specs.Orders.{Rise};
 
@@ -79,11 +79,9 @@ impl<'a> Points<'a> {
         derived: &mut AtPoint<Known>,
         shown: &mut ShownPart,
     ) -> Result<(), AllocError>
-        requires read { IsReadTo visit.now.program.now.given.space.image.now
-            (thread_of visit.now.program.now) visit.now.program.now.given.slots.now visit.now.point self.old.log self.old.kept last.old derived.old }
+        requires read { IsReadFor visit.now.program.now visit.now.point self.old last.old derived.old }
         requires shown { ShowsSome self.old.log shown.old }
-        ensures read { IfOk result (λ _. IsReadTo visit.now.program.now.given.space.image.now
-            (thread_of visit.now.program.now) visit.now.program.now.given.slots.now (visit.now.point + 1) self.new.log self.new.kept last.new derived.new) }
+        ensures read { IfOk result (λ _. IsReadFor visit.now.program.now (visit.now.point + 1) self.new last.new derived.new) }
         ensures shown { IfOk result (λ _. ShowsSome self.new.log shown.new) }
     {
         note_own(&mut self.log, visit.noted, derived)?;
@@ -98,7 +96,7 @@ impl<'a> Points<'a> {
     /// The points of a program: each has the state of its record, or what the point before leaves. With them comes what is shown of the
     /// slots in the end, for who goes over the points again. Memory may be refused.
     pub(crate) fn of(program: &Program<'a, '_>) -> Result<(Self, ShownPart), AllocError>
-        ensures read { IfOk result (λ all. IsRead program.now.given.space.image.now (thread_of program.now) program.now.given.slots.now all.0.log all.0.kept) }
+        ensures read { IfOk result (λ all. AreRead program.now all.0) }
         ensures shown { IfOk result (λ all. ShowsSome all.0.log all.1) }
     {
         let mut records = RecordsLeft::of(program);

@@ -1,28 +1,20 @@
 //! The rules on all points of a program, and on its entry.
 
 ghost use Rattle.std.specs.Prelude.{◌≡◌, IfOk};
-ghost use Rattle.model.specs.Acceptance.NotedStates.{are_same_slots, image_slots};
-ghost use Rattle.model.specs.Acceptance.PointRules.{entry_rules, point_rules, rules_of_program, state_rules};
-ghost use Rattle.model.specs.Acceptance.PointStates.{noted};
+ghost use Rattle.model.specs.Acceptance.NotedStates.{are_same_slots};
 ghost use Rattle.model.specs.Acceptance.Rules.{first_broken};
-ghost use Rattle.program_rules.specs.FoundPages.{AreFound};
-ghost use Rattle.program_rules.specs.Kept.{IsKeptAt, IsRead, state_by};
-ghost use Rattle.program_rules.specs.Programs.{thread_of};
-ghost use Rattle.program_rules.specs.SameParts.{AreSame};
-ghost use Rattle.program_rules.specs.Walks.{AreWalked};
-ghost use Rattle.program_rules.specs.declared.at_points.AtPoint.TheVariants as kept;
-ghost use Rattle.typestate.specs.Logs.{Holds, KeepsParts, Shows, ShowsSome, part_of};
-ghost use Rattle.typestate.specs.Replays.{replayed};
+ghost use Rattle.program_rules.specs.OfPrograms.{AreWalkedFor, GoesAlongFor, entry_rules_for, listed_for, replayed_for, rules_for, state_for};
+ghost use Rattle.program_rules.specs.Visits.{IsKeptHere, IsShownHere, point_rules_here, state_rules_here};
+ghost use Rattle.typestate.specs.Logs.{Holds, KeepsParts, part_of};
 ghost use Rattle.wellformed.specs.Answering.{Answers};
 
 use crate::at_points::AtPoint;
 use crate::kept::Known;
 use crate::notes::RecordsLeft;
-use crate::point_rules::{FoundPages, entered};
+use crate::point_rules::entered;
 use crate::points::Points;
 use crate::programs::Program;
 use crate::read_points::{ReadPoint, ReadPoints};
-use crate::same_parts::SameParts;
 use crate::visits::{PlainPoint, Visit, VisitedSlots};
 use crate::walks::Walk;
 use model::{Instr, Refusal};
@@ -36,49 +28,35 @@ impl<'a> Visit<'_, '_, 'a, '_> {
     fn state_rules(
         &self,
         points: &mut Points<'a>,
-        shown: &mut ShownPart,
+        walk: &mut Walk,
         known: &Known,
-        same: &mut SameParts,
-        found: &mut FoundPages,
     ) -> Result<(), Refusal>
-        requires read { IsRead self.now.program.now.given.space.image.now
-            (thread_of self.now.program.now) self.now.program.now.given.slots.now points.old.log points.old.kept }
-        requires kept { IsKeptAt self.now.program.now.given.space.image.now
-            (thread_of self.now.program.now) self.now.program.now.given.slots.now points.old.log self.now.point (kept.Known known.now) }
-        requires part { Shows points.old.log known.now.part shown.old }
-        requires same { AreSame self.now.program.now.given.slots.now points.old.log same.old }
-        requires found { AreFound self.now.program.now.given.space.image.now self.now.program.now.given.space.thread.now self.now.program.now.given.slots.now
-            points.old.log found.old }
-        ensures same { IfOk result (λ _. AreSame self.now.program.now.given.slots.now points.new.log same.new) }
-        ensures found { IfOk result (λ _. AreFound self.now.program.now.given.space.image.now self.now.program.now.given.space.thread.now
-            self.now.program.now.given.slots.now points.new.log found.new) }
-        ensures broken { Answers (first_broken (state_rules self.now.program.now.given.space.image.now (thread_of self.now.program.now) self.now.point
-            (state_by self.now.program.now.given.slots.now points.old.log known.now))) result }
-        ensures read { IfOk result (λ _. IsRead self.now.program.now.given.space.image.now
-            (thread_of self.now.program.now) self.now.program.now.given.slots.now points.new.log points.new.kept) }
-        ensures shown { IfOk result (λ _. ShowsSome points.new.log shown.new) }
+        requires along { GoesAlongFor self.now.program.now points.old walk.old }
+        requires here { IsShownHere self.now points.old known.now walk.old.shown }
+        ensures broken { Answers (first_broken (state_rules_here self.now (state_for self.now.program.now points.old.log known.now))) result }
+        ensures walked { IfOk result (λ _. AreWalkedFor self.now.program.now points.new walk.new) }
         ensures others { IfOk result (λ _. KeepsParts points.old.log points.new.log) }
     {
-        found.go_on(known.part);
+        walk.found.go_on(known.part);
         let program = self.program;
-        let slots = shown.slots(program.given.slots);
+        let slots = walk.shown.slots(program.given.slots);
         let here = VisitedSlots {
             visit: *self,
             slots,
             is_clean: known.is_clean,
         };
-        here.own_rules(known, found)?;
+        here.own_rules(known, &mut walk.found)?;
         match self.instr {
-            Some(Instr::Ecall) => self.call_rules(points, shown, known),
+            Some(Instr::Ecall) => self.call_rules(points, &mut walk.shown, known),
             Some(instr) => {
                 let plain = PlainPoint {
                     visit: *self,
                     points: &*points,
-                    shown: &*shown,
+                    shown: &walk.shown,
                     known,
                     instr,
                 };
-                plain.ways_rules(same)
+                plain.ways_rules(&mut walk.same)
             }
             None => Ok(()),
         }
@@ -90,27 +68,13 @@ impl<'a> Visit<'_, '_, 'a, '_> {
     fn point_rules(
         &self,
         points: &mut Points<'a>,
-        shown: &mut ShownPart,
+        walk: &mut Walk,
         kept: &AtPoint<Known>,
-        same: &mut SameParts,
-        found: &mut FoundPages,
     ) -> Result<(), Refusal>
-        requires read { IsRead self.now.program.now.given.space.image.now
-            (thread_of self.now.program.now) self.now.program.now.given.slots.now points.old.log points.old.kept }
-        requires kept { IsKeptAt self.now.program.now.given.space.image.now
-            (thread_of self.now.program.now) self.now.program.now.given.slots.now points.old.log self.now.point kept.now }
-        requires some { ShowsSome points.old.log shown.old }
-        requires same { AreSame self.now.program.now.given.slots.now points.old.log same.old }
-        requires found { AreFound self.now.program.now.given.space.image.now self.now.program.now.given.space.thread.now self.now.program.now.given.slots.now
-            points.old.log found.old }
-        ensures same { IfOk result (λ _. AreSame self.now.program.now.given.slots.now points.new.log same.new) }
-        ensures found { IfOk result (λ _. AreFound self.now.program.now.given.space.image.now self.now.program.now.given.space.thread.now
-            self.now.program.now.given.slots.now points.new.log found.new) }
-        ensures broken { Answers (first_broken (point_rules self.now.program.now.given.space.image.now (thread_of self.now.program.now) self.now.point))
-            result }
-        ensures read { IfOk result (λ _. IsRead self.now.program.now.given.space.image.now
-            (thread_of self.now.program.now) self.now.program.now.given.slots.now points.new.log points.new.kept) }
-        ensures shown { IfOk result (λ _. ShowsSome points.new.log shown.new) }
+        requires walked { AreWalkedFor self.now.program.now points.old walk.old }
+        requires kept { IsKeptHere self.now points.old kept.now }
+        ensures broken { Answers (first_broken (point_rules_here self.now)) result }
+        ensures walked { IfOk result (λ _. AreWalkedFor self.now.program.now points.new walk.new) }
         ensures others { IfOk result (λ _. KeepsParts points.old.log points.new.log) }
     {
         match kept {
@@ -120,8 +84,8 @@ impl<'a> Visit<'_, '_, 'a, '_> {
                         return Ok(());
                     }
                 }
-                points.log.show(shown, known.part)?;
-                self.state_rules(points, shown, known, same, found)
+                points.log.show(&mut walk.shown, known.part)?;
+                self.state_rules(points, walk, known)
             }
             AtPoint::Missing | AtPoint::Unmeasured => Ok(()),
         }
@@ -131,9 +95,7 @@ impl<'a> Visit<'_, '_, 'a, '_> {
 impl ReadPoints<'_, '_, '_, '_> {
     /// The rules on the state of the thread's entry.
     fn entry_rules(&self) -> Result<(), Refusal>
-        ensures { Answers (first_broken (entry_rules self.now.program.now.given.space.image.now (thread_of self.now.program.now)
-            (noted self.now.program.now.given.space.image.now (thread_of self.now.program.now) self.now.program.now.given.space.thread.now.header.entry)))
-            result }
+        ensures { Answers (first_broken (entry_rules_for self.now.program.now)) result }
     {
         let program = self.program;
         let points = self.points;
@@ -153,8 +115,8 @@ impl<'a> Program<'a, '_> {
     /// The rules at the entry, and then on all points in their order.
     #[tactic(auto, unfolding(model::specs::Acceptance::PointRules::rules_of_program))]
     fn points_rules(&self, points: &mut Points<'a>, walk: &mut Walk) -> Result<(), Refusal>
-        requires { AreWalked self.now.given.space.image.now (thread_of self.now) self.now.given.slots.now points.old.log points.old.kept walk.old }
-        ensures { Answers (first_broken (rules_of_program self.now.given.space.image.now (thread_of self.now))) result }
+        requires { AreWalkedFor self.now points.old walk.old }
+        ensures { Answers (first_broken (rules_for self.now)) result }
     {
         let read = ReadPoints {
             program: self,
@@ -175,13 +137,7 @@ impl<'a> Program<'a, '_> {
                 is_next_noted,
             };
             walk.turn_to(&kept);
-            visit.point_rules(
-                points,
-                &mut walk.shown,
-                &kept,
-                &mut walk.same,
-                &mut walk.found,
-            )?;
+            visit.point_rules(points, walk, &kept)?;
             let still_read = ReadPoints {
                 program: self,
                 points: &*points,
@@ -199,8 +155,7 @@ impl<'a> Program<'a, '_> {
     /// Whether the slots of a part of the log are those that the image lists.
     fn has_listed_slots(&self, log: &SlotLog, part: Part) -> Result<bool, AllocError>
         requires { Holds log.now part }
-        ensures { IfOk result (λ is. is ≡ are_same_slots (replayed self.now.given.slots.now (part_of log.now part))
-            (image_slots self.now.given.space.image.now self.now.given.space.thread.now)) }
+        ensures { IfOk result (λ is. is ≡ are_same_slots (replayed_for self.now (part_of log.now part)) (listed_for self.now)) }
     {
         let shown = log.shown(part)?;
         let nothing = ShownPart::new(self.alloc);
@@ -210,7 +165,7 @@ impl<'a> Program<'a, '_> {
 
     /// The rules on the program: at its entry, and then at its points in their order.
     pub(crate) fn check(&self) -> Result<(), Refusal>
-        ensures { Answers (first_broken (rules_of_program self.now.given.space.image.now (thread_of self.now))) result }
+        ensures { Answers (first_broken (rules_for self.now)) result }
     {
         let (mut points, left) = Points::of(self)?;
         let mut walk = Walk::new(self.alloc, left);

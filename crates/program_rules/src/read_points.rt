@@ -5,7 +5,7 @@ ghost use Rattle.std.specs.Prelude.{◌≡◌, ◌+◌, ◌<◌, Some};
 ghost use Rattle.model.specs.Acceptance.PointStates.{instruction_at};
 ghost use Rattle.model.specs.Machine.Instructions.{IsInstr};
 ghost use Rattle.model.specs.declared.instructions.Instr.{Instr as RuleInstr};
-ghost use Rattle.program_rules.specs.Kept.{IsKeptAt, IsRead};
+ghost use Rattle.program_rules.specs.Kept.{IsRead};
 ghost use Rattle.program_rules.specs.Programs.{thread_of};
 ghost use Rattle.program_rules.specs.Propositions.{IsAt-prop, IsInstr-prop};
 
@@ -38,13 +38,13 @@ pub(crate) struct ReadPoint<'p, 'k, 'a, 's> {
 }
 
 impl ReadPoint<'_, '_, '_, '_> {
+    ghost use Rattle.program_rules.specs.OfPrograms.{words_of};
+    ghost use Rattle.program_rules.specs.Reads.{IsKeptIn, IsKeptRead};
+
     /// Makes of what is kept of the point what is kept of the one after it, if the program has one.
     pub(crate) fn pass(&self, kept: &mut AtPoint<Known>)
-        requires { IsKeptAt self.now.read.program.now.given.space.image.now
-            (thread_of self.now.read.program.now) self.now.read.program.now.given.slots.now self.now.read.points.now.log self.now.point kept.old }
-        ensures { self.now.point + 1 < self.now.read.program.now.given.space.thread.now.header.words
-            → IsKeptAt self.now.read.program.now.given.space.image.now
-            (thread_of self.now.read.program.now) self.now.read.program.now.given.slots.now self.now.read.points.now.log (self.now.point + 1) kept.new }
+        requires { IsKeptRead self.now kept.old }
+        ensures { self.now.point + 1 < words_of self.now.read.program.now → IsKeptIn self.now.read (self.now.point + 1) kept.new }
     {
         let points = self.read.points;
         let program = self.read.program;
@@ -62,11 +62,13 @@ impl ReadPoint<'_, '_, '_, '_> {
 }
 
 impl ReadPoints<'_, '_, '_, '_> {
+    ghost use Rattle.program_rules.specs.OfPrograms.{words_of};
+    ghost use Rattle.program_rules.specs.Reads.{IsKeptIn};
+
     /// What is kept of a point.
     pub(crate) fn at(&self, point: u32) -> AtPoint<Known>
-        requires { point < self.now.program.now.given.space.thread.now.header.words }
-        ensures { IsKeptAt self.now.program.now.given.space.image.now
-            (thread_of self.now.program.now) self.now.program.now.given.slots.now self.now.points.now.log point result }
+        requires { point < words_of self.now.program.now }
+        ensures { IsKeptIn self.now point result }
     {
         let points = self.points;
         let program = self.program;

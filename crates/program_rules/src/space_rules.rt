@@ -2,12 +2,9 @@
 
 ghost use Rattle.std.specs.Prelude.{◌≡◌, IfOk, List};
 ghost use Rattle.model.specs.Acceptance.Measures.{Measure};
-ghost use Rattle.model.specs.Acceptance.NotedStates.{has_stray_slots};
-ghost use Rattle.model.specs.Acceptance.PointStates.{call_at};
 ghost use Rattle.model.specs.declared.ranges.Range.{Range};
-ghost use Rattle.program_rules.specs.Kept.{IsCleanBehind, call_of};
-ghost use Rattle.program_rules.specs.Programs.{thread_of};
-ghost use Rattle.typestate.specs.Calls.{known_with};
+ghost use Rattle.program_rules.specs.Kept.{call_of};
+ghost use Rattle.program_rules.specs.Visits.{IsCleanBehindHere, call_here, has_stray_here, state_with};
 ghost use Rattle.typestate.specs.Differences.{slots_of};
 
 use crate::notes::record_in;
@@ -34,9 +31,7 @@ impl VisitedSlots<'_, '_, '_, '_, '_> {
     /// Whether some slot is one that the thread may not have, or the point's record notes one outside of the thread's CNodes. Where
     /// it is known that no slot is, only the record is looked at.
     pub(crate) fn has_stray_slots(&self) -> bool
-        ensures { (ranges : List Range) (measure : Measure)
-            → result ≡ has_stray_slots self.now.visit.program.now.given.space.image.now self.now.visit.program.now.given.space.thread.now self.now.visit.point
-            (known_with ranges (slots_of self.now.slots) measure) }
+        ensures { (ranges : List Range) (measure : Measure) → result ≡ has_stray_here self.now.visit (state_with self.now ranges measure) }
     {
         let program = self.visit.program;
         let told = ToldSlots {
@@ -50,12 +45,9 @@ impl VisitedSlots<'_, '_, '_, '_, '_> {
 
     /// What the system call at the point leaves. Memory may be refused.
     pub(crate) fn called(&self, bounds: &Bounds) -> Result<Called, AllocError>
-        ensures clean { IfOk result (IsCleanBehind self.now.visit.program.now.given.space.image.now self.now.visit.program.now.given.space.thread.now
-            (slots_of self.now.slots)) }
+        ensures clean { IfOk result (IsCleanBehindHere self.now) }
         ensures left { IfOk result (λ called. (measure : Measure)
-            → call_at self.now.visit.program.now.given.space.image.now (thread_of self.now.visit.program.now) self.now.visit.point
-            (known_with bounds.now (slots_of self.now.slots) measure)
-            ≡ call_of (slots_of self.now.slots) called) }
+            → call_here self.now.visit (state_with self.now bounds.now measure) ≡ call_of (slots_of self.now.slots) called) }
     {
         points_without_stray_slots_have_none();
         no_stray_slot_leads_outside();

@@ -1,20 +1,17 @@
 //! What is seen of the points of programs by who does not ask for their rules: what a system call names, and where the ways on lead.
 
-ghost use Rattle.std.specs.Prelude.{◌≡◌, ◌≢◌, ◌<◌, IfErr, IfOk, Some, option_map};
+ghost use Rattle.std.specs.Prelude.{◌≡◌, ◌≢◌, IfErr, IfOk, Some, option_map};
 ghost use Rattle.model.specs.Acceptance.Accepted.{IsWellFormed};
 ghost use Rattle.model.specs.Acceptance.Measures.{Measure};
-ghost use Rattle.model.specs.Acceptance.NotedStates.{PointState};
-ghost use Rattle.model.specs.Acceptance.PointStates.{call_at, instruction_at, noted};
 ghost use Rattle.model.specs.Images.Places.{offset_of};
 ghost use Rattle.model.specs.declared.instructions.Instr.TheVariants.{Ecall};
 ghost use Rattle.model.specs.declared.refusals.Refusal.TheVariants.{OutOfMemory};
-ghost use Rattle.program_rules.specs.Kept.{IsKeptAt, state_by};
-ghost use Rattle.program_rules.specs.Programs.{thread_of};
-ghost use Rattle.program_rules.specs.Views.{AreProgramViews, AreViews, IsProgramView, IsSeen, IsView, capability_seen};
+ghost use Rattle.program_rules.specs.OfPrograms.{AreViewsFor, AreViewsGiven, IsViewPlaced};
+ghost use Rattle.program_rules.specs.Reads.{IsKeptRead, IsSeenRead, IsViewRead, ShowsSomeIn};
+ghost use Rattle.program_rules.specs.Views.{AreProgramViews, capability_seen};
 ghost use Rattle.program_rules.specs.declared.at_points.AtPoint.TheVariants as kept;
 ghost use Rattle.typestate.specs.Calls.{known_with};
 ghost use Rattle.typestate.specs.Differences.{slots_of};
-ghost use Rattle.typestate.specs.Logs.{ShowsSome};
 ghost use Rattle.typestate.specs.Promises.{AreOfImage};
 ghost use Rattle.typestate.specs.Spaces.{NothingLeadsOutside};
 
@@ -85,8 +82,8 @@ fn target_of(way: &Option<Edge>) -> Option<u32>
 
 /// The capability that the least value of `a0` names, where no slot leads outside of the thread's CNodes.
 fn named(space: &Space<'_, '_>, slots: &NotedSlots<'_>, bounds: &Bounds) -> Cap
-    requires { NothingLeadsOutside space.now.image.now space.now.thread.now (slots_of slots.now) }
-    ensures { (measure : Measure) → result ≡ capability_seen space.now.image.now space.now.thread.now (known_with bounds.now (slots_of slots.now) measure) }
+    ensures { NothingLeadsOutside space.now.image.now space.now.thread.now (slots_of slots.now) → (measure : Measure)
+        → result ≡ capability_seen space.now.image.now space.now.thread.now (known_with bounds.now (slots_of slots.now) measure) }
 {
     let own = OwnSlots {
         windows: space.windows,
@@ -101,10 +98,8 @@ fn named(space: &Space<'_, '_>, slots: &NotedSlots<'_>, bounds: &Bounds) -> Cap
 impl ReadPoint<'_, '_, '_, '_> {
     /// What is seen of the point, at an instruction that is no system call.
     fn plain_view(&self, known: &Known, instr: Instr) -> SeenPoint
-        requires is { self.now.instr ≡ Some instr }
-        requires plain { instr ≢ Ecall }
-        ensures { IsSeen self.now.read.program.now.given.space.image.now (thread_of self.now.read.program.now) self.now.point
-            (state_by self.now.read.program.now.given.slots.now self.now.read.points.now.log known.now) result }
+        requires { self.now.instr ≡ Some instr }
+        ensures { instr ≢ Ecall → IsSeenRead self.now known.now result }
     {
         let ways = after(self.read.program.address(self.point), instr, &known.bounds);
         SeenPoint {
@@ -117,13 +112,10 @@ impl ReadPoint<'_, '_, '_, '_> {
 
     /// What is seen of the point at a system call. The part of the log that its slots have is shown for that, in place of another one.
     fn call_view(&self, known: &Known, shown: &mut ShownPart) -> Result<PointView, AllocError>
-        requires is { self.now.instr ≡ Some Ecall }
-        requires kept { IsKeptAt self.now.read.program.now.given.space.image.now
-            (thread_of self.now.read.program.now) self.now.read.program.now.given.slots.now self.now.read.points.now.log self.now.point (kept.Known known.now) }
-        requires shown { ShowsSome self.now.read.points.now.log shown.old }
-        ensures view { IfOk result (IsView self.now.read.program.now.given.space.image.now (thread_of self.now.read.program.now) self.now.point
-            (noted self.now.read.program.now.given.space.image.now (thread_of self.now.read.program.now) self.now.point)) }
-        ensures shown { IfOk result (λ _. ShowsSome self.now.read.points.now.log shown.new) }
+        requires kept { IsKeptRead self.now (kept.Known known.now) }
+        requires shown { ShowsSomeIn self.now.read shown.old }
+        ensures view { IfOk result (λ view. self.now.instr ≡ Some Ecall → IsViewRead self.now view) }
+        ensures shown { IfOk result (λ _. ShowsSomeIn self.now.read shown.new) }
     {
         if !known.is_clean {
             return Ok(PointView::Unclear);
@@ -141,10 +133,9 @@ impl ReadPoint<'_, '_, '_, '_> {
 
     /// What is seen of the point.
     fn view(&self, shown: &mut ShownPart) -> Result<PointView, AllocError>
-        requires { ShowsSome self.now.read.points.now.log shown.old }
-        ensures view { IfOk result (IsView self.now.read.program.now.given.space.image.now (thread_of self.now.read.program.now) self.now.point
-            (noted self.now.read.program.now.given.space.image.now (thread_of self.now.read.program.now) self.now.point)) }
-        ensures shown { IfOk result (λ _. ShowsSome self.now.read.points.now.log shown.new) }
+        requires { ShowsSomeIn self.now.read shown.old }
+        ensures view { IfOk result (IsViewRead self.now) }
+        ensures shown { IfOk result (λ _. ShowsSomeIn self.now.read shown.new) }
     {
         let AtPoint::Known(known) = self.read.at(self.point) else {
             return Ok(PointView::Unknown);
@@ -165,9 +156,8 @@ impl ReadPoint<'_, '_, '_, '_> {
 impl ReadPoints<'_, '_, '_, '_> {
     /// What is seen of each point. Memory may be refused.
     fn views(&self, shown: &mut ShownPart) -> Result<Vec<PointView>, AllocError>
-        requires { ShowsSome self.now.points.now.log shown.old }
-        ensures { IfOk result (λ views. AreViews self.now.program.now.given.space.image.now
-            (thread_of self.now.program.now) self.now.program.now.given.space.thread.now.header.words views.items) }
+        requires { ShowsSomeIn self.now shown.old }
+        ensures { IfOk result (λ views. AreViewsFor self.now.program.now views.items) }
     {
         let program = self.program;
         let mut views = Vec::new(program.alloc);
@@ -186,7 +176,7 @@ impl ReadPoints<'_, '_, '_, '_> {
 impl Program<'_, '_> {
     /// What is seen of each point of the program. Memory may be refused.
     fn views(&self) -> Result<Vec<PointView>, AllocError>
-        ensures { IfOk result (λ views. AreViews self.now.given.space.image.now (thread_of self.now) self.now.given.space.thread.now.header.words views.items) }
+        ensures { IfOk result (λ views. AreViewsFor self.now views.items) }
     {
         let (points, mut shown) = Points::of(self)?;
         let read = ReadPoints {
@@ -199,8 +189,7 @@ impl Program<'_, '_> {
 
 /// What is seen of the points of a program, by what the image gives the thread.
 fn views_given(alloc: Global, given: GivenThread<'_, '_>) -> Result<Vec<PointView>, Refusal>
-    ensures views { IfOk result (λ views. AreViews given.entry.space.image.now
-        (record { number = given.entry.number; thread = given.entry.space.thread.now }) given.entry.space.thread.now.header.words views.items) }
+    ensures views { IfOk result (λ views. AreViewsGiven given.entry views.items) }
     ensures memory { IfErr result (λ refusal. refusal ≡ OutOfMemory) }
 {
     let image = given.space.image;
@@ -238,7 +227,7 @@ fn view_of<'a>(
     owner: PlacedThread<'_, '_, '_, 'a>,
 ) -> Result<ProgramView, Refusal>
     requires { AreOfImage owner.placed.now.image.now promises.now }
-    ensures view { IfOk result (IsProgramView owner.entry.placed.now.image.now (record { number = owner.entry.number; thread = owner.entry.thread.now })) }
+    ensures view { IfOk result (IsViewPlaced owner.entry) }
     ensures memory { IfErr result (λ refusal. refusal ≡ OutOfMemory) }
 {
     let header = owner.thread.header();

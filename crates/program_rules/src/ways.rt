@@ -1,24 +1,20 @@
 //! The ways on from a point with a state.
 
-ghost use Rattle.std.specs.Prelude.{ℕ, ◌≡◌, ◌+◌, ◌<◌, ◌≢◌, IfOk, IfSome, List, None, Option, Some, option_map, true, if◌then◌else◌};
-ghost use Rattle.measure.specs.Measures.{measure_of};
+ghost use Rattle.std.specs.Prelude.{ℕ, ◌≡◌, ◌<◌, ◌≢◌, IfOk, IfSome, List, None, Option, Some, option_map, true, if◌then◌else◌};
 ghost use Rattle.model.specs.Acceptance.Edges.{Edge as RuleEdge, after};
 ghost use Rattle.model.specs.Acceptance.NotedStates.{PointState as State, are_same_slots};
-ghost use Rattle.model.specs.Acceptance.PointRules.{edge_rules, noted_at, point_at, rules_on_edges};
-ghost use Rattle.model.specs.Acceptance.PointStates.{address_of, instruction_at, noted};
+ghost use Rattle.model.specs.Acceptance.PointRules.{point_at};
 ghost use Rattle.model.specs.Acceptance.PointStates as states;
 ghost use Rattle.model.specs.Acceptance.Rules.{first_broken};
 ghost use Rattle.model.specs.declared.instructions.Instr.TheVariants.{Ecall};
 ghost use Rattle.model.specs.declared.ranges.Range.{Range};
-ghost use Rattle.program_rules.specs.point_rules.Points.{edge_of};
-ghost use Rattle.program_rules.specs.Kept.{HasPart, IsRead, noted_by};
-ghost use Rattle.program_rules.specs.PointChecks.{IsBefore, is_branch, later_rules, way_rules};
-ghost use Rattle.program_rules.specs.Programs.{thread_of};
-ghost use Rattle.program_rules.specs.SameParts.{AreSame};
-ghost use Rattle.program_rules.specs.Visits.{broken_by, state_at};
+ghost use Rattle.program_rules.specs.Kept.{HasPart};
+ghost use Rattle.program_rules.specs.OfPrograms.{AreRead, words_of};
+ghost use Rattle.program_rules.specs.PointChecks.{IsBefore, is_branch};
+ghost use Rattle.program_rules.specs.Visits.{AreSameAt, AreSameSeen, address_here, broken_by, instruction_here, later_rules_here, noted_from};
+ghost use Rattle.program_rules.specs.Visits.{noted_here, noted_seen, rules_to, slots_at, slots_seen, taken_at, way_rules_here, ways_rules_at};
 ghost use Rattle.ranges.specs.Edges.{way_of};
-ghost use Rattle.typestate.specs.Logs.{Holds, part_of};
-ghost use Rattle.typestate.specs.Replays.{replayed};
+ghost use Rattle.typestate.specs.Logs.{Holds};
 ghost use Rattle.wellformed.specs.Answering.{Answers};
 
 use crate::at_points::AtPoint;
@@ -57,7 +53,7 @@ impl Program<'_, '_> {
     /// The point at an address, if the program has one there.
     fn point_at(&self, address: u32) -> Option<u32>
         ensures value { result ≡ point_at self.now.given.space.thread.now address }
-        ensures within { IfSome result (λ point. point < self.now.given.space.thread.now.header.words) }
+        ensures within { IfSome result (λ point. point < words_of self.now) }
     {
         let header = self.given.space.thread.header();
         if address < header.base || address % 4 != 0 {
@@ -75,8 +71,7 @@ impl Program<'_, '_> {
 impl Seen<'_, '_, '_, '_, '_> {
     /// What is kept of the point at an address: nothing, where the program has none there.
     fn kept_at(&self, address: u32) -> AtPoint<Known>
-        ensures noted { noted_by self.now.program.now.given.slots.now self.now.points.now.log result
-            ≡ noted_at self.now.program.now.given.space.image.now (thread_of self.now.program.now) address }
+        ensures noted { noted_seen self.now result ≡ noted_from self.now address }
         ensures held { HasPart self.now.points.now.log result }
     {
         let read = ReadPoints {
@@ -92,10 +87,9 @@ impl Seen<'_, '_, '_, '_, '_> {
     /// Whether the slots are those of another part. Those that were found to be are not compared again. Memory may be refused.
     fn has_same_slots(&self, other: Part, same: &mut SameParts) -> Result<bool, AllocError>
         requires held { Holds self.now.points.now.log other }
-        requires same { AreSame self.now.program.now.given.slots.now self.now.points.now.log same.old }
-        ensures is { IfOk result (λ is. is ≡ are_same_slots (replayed self.now.program.now.given.slots.now (part_of self.now.points.now.log self.now.part))
-            (replayed self.now.program.now.given.slots.now (part_of self.now.points.now.log other))) }
-        ensures same { IfOk result (λ _. AreSame self.now.program.now.given.slots.now self.now.points.now.log same.new) }
+        requires same { AreSameSeen self.now same.old }
+        ensures is { IfOk result (λ is. is ≡ are_same_slots (slots_seen self.now) (slots_at self.now other)) }
+        ensures same { IfOk result (λ _. AreSameSeen self.now same.new) }
     {
         if self.part.is_same(other) {
             return Ok(true);
@@ -126,11 +120,9 @@ impl Seen<'_, '_, '_, '_, '_> {
         address: u32,
         same: &mut SameParts,
     ) -> Result<(), Refusal>
-        requires same { AreSame self.now.program.now.given.slots.now self.now.points.now.log same.old }
-        ensures same { IfOk result (λ _. AreSame self.now.program.now.given.slots.now self.now.points.now.log same.new) }
-        ensures answers { Answers (first_broken (edge_rules self.now.program.now.given.space.thread.now way.now.at (measure_of way.now.measure.now)
-            (edge_of address (S.value_of step.now) (replayed self.now.program.now.given.slots.now (part_of self.now.points.now.log self.now.part)) way.now)
-            (noted_at self.now.program.now.given.space.image.now (thread_of self.now.program.now) address))) result }
+        requires same { AreSameSeen self.now same.old }
+        ensures same { IfOk result (λ _. AreSameSeen self.now same.new) }
+        ensures answers { Answers (first_broken (rules_to self.now way.now (S.value_of step.now) address)) result }
     {
         let there = self.kept_at(address);
         match &there {
@@ -150,17 +142,11 @@ impl Visit<'_, '_, '_, '_> {
     /// Whether the next point has the very state that this one leaves: no record notes it, and it has a state. The way to it keeps its
     /// rules then, and a system call before it is not refused.
     pub(crate) fn leaves_next(&self, points: &Points<'_>) -> bool
-        requires { IsRead self.now.program.now.given.space.image.now
-            (thread_of self.now.program.now) self.now.program.now.given.slots.now points.now.log points.now.kept }
-        ensures plain { (s : State) (instr : Instr) → result ≡ true
-            → states.Known s ≡ noted self.now.program.now.given.space.image.now (thread_of self.now.program.now) self.now.point
-            → instruction_at self.now.program.now.given.space.thread.now self.now.point ≡ Some instr → instr ≢ Ecall
-            → first_broken (way_rules self.now.program.now.given.space.image.now (thread_of self.now.program.now) self.now.point s instr
-            (after (address_of self.now.program.now.given.space.thread.now self.now.point) instr s.ranges).fall_through) ≡ None }
-        ensures call { (s : State) → result ≡ true
-            → states.Known s ≡ noted self.now.program.now.given.space.image.now (thread_of self.now.program.now) self.now.point
-            → instruction_at self.now.program.now.given.space.thread.now self.now.point ≡ Some Ecall
-            → first_broken (later_rules self.now.program.now.given.space.image.now (thread_of self.now.program.now) self.now.point s (Some Ecall)) ≡ None }
+        ensures plain { AreRead self.now.program.now points.now → (s : State) (instr : Instr) → result ≡ true → states.Known s ≡ noted_here self.now
+            → instruction_here self.now ≡ Some instr → instr ≢ Ecall
+            → first_broken (way_rules_here self.now s instr (after (address_here self.now) instr s.ranges).fall_through) ≡ None }
+        ensures call { AreRead self.now.program.now points.now → (s : State) → result ≡ true → states.Known s ≡ noted_here self.now
+            → instruction_here self.now ≡ Some Ecall → first_broken (later_rules_here self.now s (Some Ecall)) ≡ None }
     {
         left_states_are_kept();
         left_calls_are_kept();
@@ -177,8 +163,8 @@ impl Visit<'_, '_, '_, '_> {
 impl PlainPoint<'_, '_, '_, '_, '_, '_, '_> {
     /// The rules on a way on from the instruction.
     fn way_rules(&self, way: &Edge, same: &mut SameParts) -> Result<(), Refusal>
-        requires { AreSame self.now.visit.program.now.given.slots.now self.now.points.now.log same.old }
-        ensures same { IfOk result (λ _. AreSame self.now.visit.program.now.given.slots.now self.now.points.now.log same.new) }
+        requires { AreSameAt self.now same.old }
+        ensures same { IfOk result (λ _. AreSameAt self.now same.new) }
         ensures answers { (edge : RuleEdge) → way_of edge ≡ way.now
             → edge.before ≡ (if is_branch self.now.instr then edge.ranges else self.now.known.now.bounds)
             → Answers (broken_by self.now (Some edge)) result }
@@ -203,8 +189,8 @@ impl PlainPoint<'_, '_, '_, '_, '_, '_, '_> {
 
     /// The same, where there may be no such way.
     fn option_rules(&self, way: &Option<Edge>, same: &mut SameParts) -> Result<(), Refusal>
-        requires { AreSame self.now.visit.program.now.given.slots.now self.now.points.now.log same.old }
-        ensures same { IfOk result (λ _. AreSame self.now.visit.program.now.given.slots.now self.now.points.now.log same.new) }
+        requires { AreSameAt self.now same.old }
+        ensures same { IfOk result (λ _. AreSameAt self.now same.new) }
         ensures answers { (edge : Option RuleEdge) → option_map way_of edge ≡ way.now → IsBefore self.now.instr self.now.known.now.bounds edge
             → Answers (broken_by self.now edge) result }
     {
@@ -216,10 +202,9 @@ impl PlainPoint<'_, '_, '_, '_, '_, '_, '_> {
 
     /// The rules on the taken way on.
     fn taken_rules(&self, same: &mut SameParts) -> Result<(), Refusal>
-        requires { AreSame self.now.visit.program.now.given.slots.now self.now.points.now.log same.old }
-        ensures same { IfOk result (λ _. AreSame self.now.visit.program.now.given.slots.now self.now.points.now.log same.new) }
-        ensures answers { Answers (broken_by self.now
-            (after (address_of self.now.visit.program.now.given.space.thread.now self.now.visit.point) self.now.instr self.now.known.now.bounds).taken) result }
+        requires { AreSameAt self.now same.old }
+        ensures same { IfOk result (λ _. AreSameAt self.now same.new) }
+        ensures answers { Answers (broken_by self.now (taken_at self.now)) result }
     {
         if takes_no_way(self.instr) {
             return Ok(());
@@ -231,10 +216,9 @@ impl PlainPoint<'_, '_, '_, '_, '_, '_, '_> {
 
     /// The rules on the ways on, the taken one first.
     pub(crate) fn ways_rules(&self, same: &mut SameParts) -> Result<(), Refusal>
-        requires { AreSame self.now.visit.program.now.given.slots.now self.now.points.now.log same.old }
-        ensures same { IfOk result (λ _. AreSame self.now.visit.program.now.given.slots.now self.now.points.now.log same.new) }
-        ensures answers { Answers (first_broken (rules_on_edges self.now.visit.program.now.given.space.image.now
-            (thread_of self.now.visit.program.now) self.now.visit.point (state_at self.now))) result }
+        requires { AreSameAt self.now same.old }
+        ensures same { IfOk result (λ _. AreSameAt self.now same.new) }
+        ensures answers { Answers (first_broken (ways_rules_at self.now)) result }
     {
         if self.visit.leaves_next(self.points) {
             return self.taken_rules(same);

@@ -3,12 +3,10 @@
 
 ghost use Rattle.std.specs.Prelude.{ℕ, ◌≡◌, ◌<◌, ◌≤◌, ◌≤ℤ◌, ◌+ℤ◌, ◌^◌, IfNone, IfSome, false, pos, true};
 ghost use Rattle.std.specs.Int.{byte_len};
-ghost use Rattle.std.specs.List.{list_any};
-ghost use Rattle.model.specs.Acceptance.PointRules.{are_mapped, is_allowed, is_mapped_for, maps_for};
 ghost use Rattle.model.specs.Machine.Effects.{load_size, store_size};
 ghost use Rattle.model.specs.Machine.ProgramMemory.{width_of};
 ghost use Rattle.program_rules.specs.point_rules.Runs.{AreRuns};
-ghost use Rattle.typestate.specs.Differences.{slots_of};
+ghost use Rattle.program_rules.specs.ReachedPages.{are_mapped_in, is_allowed_in, is_listed_there, is_mapped_in, is_mapped_there};
 
 use crate::point_rules::listed_pages::{PageRun, is_listed, run_end};
 use crate::point_rules::page_numbers::Page;
@@ -60,7 +58,7 @@ fn moved(address: u32, offset: i32) -> i64
 impl AccessPages<'_, '_, '_, '_> {
     /// The pages, run by run, that the image maps.
     fn runs(&self) -> &[PageRun]
-        ensures { AreRuns (λ page. list_any (maps_for self.now.access self.now.pages.now.thread.now page) self.now.pages.now.image.now.frames) result.now }
+        ensures { AreRuns (is_listed_there self.now) result.now }
     {
         let pages = self.pages;
         match self.access {
@@ -72,8 +70,7 @@ impl AccessPages<'_, '_, '_, '_> {
 
     /// Whether a page is mapped.
     fn is_mapped(&self, page: Page) -> bool
-        ensures { result ≡ is_mapped_for self.now.pages.now.image.now self.now.pages.now.thread.now
-            (slots_of self.now.pages.now.slots) self.now.access page.number }
+        ensures { result ≡ is_mapped_there self.now page.number }
     {
         let pages = self.pages;
         is_listed(pages.image, pages.thread, self.access, page)
@@ -84,10 +81,8 @@ impl AccessPages<'_, '_, '_, '_> {
     /// are one step, and so are those that were found.
     fn mapped_to(&self, page: Page) -> Option<u32>
         ensures later { IfSome result (λ next. page.number < next) }
-        ensures mapped { IfSome result (λ next. (p : ℕ) → page.number ≤ p → p < next
-            → is_mapped_for self.now.pages.now.image.now self.now.pages.now.thread.now (slots_of self.now.pages.now.slots) self.now.access p ≡ true) }
-        ensures missing { IfNone result (is_mapped_for self.now.pages.now.image.now self.now.pages.now.thread.now
-            (slots_of self.now.pages.now.slots) self.now.access page.number ≡ false) }
+        ensures mapped { IfSome result (λ next. (p : ℕ) → page.number ≤ p → p < next → is_mapped_there self.now p ≡ true) }
+        ensures missing { IfNone result (is_mapped_there self.now page.number ≡ false) }
     {
         let found = self.found;
         let known = found.end(page.number);
@@ -109,10 +104,8 @@ impl AccessPages<'_, '_, '_, '_> {
     /// are mapped.
     fn mapped_before(&self, first: Page, last: Page) -> u32
         ensures from { first.number ≤ result }
-        ensures mapped { (p : ℕ) → first.number ≤ p → p < result
-            → is_mapped_for self.now.pages.now.image.now self.now.pages.now.thread.now (slots_of self.now.pages.now.slots) self.now.access p ≡ true }
-        ensures missing { result ≤ last.number → is_mapped_for self.now.pages.now.image.now self.now.pages.now.thread.now
-            (slots_of self.now.pages.now.slots) self.now.access result ≡ false }
+        ensures mapped { (p : ℕ) → first.number ≤ p → p < result → is_mapped_there self.now p ≡ true }
+        ensures missing { result ≤ last.number → is_mapped_there self.now result ≡ false }
     {
         let mut page = first.number;
         'pages: for _ in first.number..last.number + 1 {
@@ -131,9 +124,9 @@ impl AccessPages<'_, '_, '_, '_> {
 impl Pages<'_, '_> {
     /// Whether every page from that of one byte to that of another is mapped. Those that are found mapped are noted.
     fn are_mapped(&self, access: Access, first: u32, last: u32, found: &mut FoundRuns) -> bool
-        requires { AreRuns (is_mapped_for self.now.image.now self.now.thread.now (slots_of self.now.slots) access) found.old }
-        ensures is { result ≡ are_mapped self.now.image.now self.now.thread.now (slots_of self.now.slots) access first last }
-        ensures found { AreRuns (is_mapped_for self.now.image.now self.now.thread.now (slots_of self.now.slots) access) found.new }
+        requires { AreRuns (is_mapped_in self.now access) found.old }
+        ensures is { result ≡ are_mapped_in self.now access first last }
+        ensures found { AreRuns (is_mapped_in self.now access) found.new }
     {
         let start = Page::of(first);
         let last = Page::of(last);
@@ -153,10 +146,10 @@ impl Pages<'_, '_> {
     /// Whether all accesses to bytes meet only mapped pages. Pages that were found mapped are not asked again, and those that are
     /// found now are noted.
     pub(crate) fn reaches(&self, access: Access, bytes: ReachedBytes, found: &mut FoundRuns) -> bool
-        requires { AreRuns (is_mapped_for self.now.image.now self.now.thread.now (slots_of self.now.slots) access) found.old }
-        ensures is { result ≡ is_allowed self.now.image.now self.now.thread.now (slots_of self.now.slots) access (byte_len (width_of bytes.size))
+        requires { AreRuns (is_mapped_in self.now access) found.old }
+        ensures is { result ≡ is_allowed_in self.now access (byte_len (width_of bytes.size))
             (pos bytes.range.low +ℤ bytes.offset) (pos bytes.range.high +ℤ bytes.offset) }
-        ensures found { AreRuns (is_mapped_for self.now.image.now self.now.thread.now (slots_of self.now.slots) access) found.new }
+        ensures found { AreRuns (is_mapped_in self.now access) found.new }
     {
         let least = moved(bytes.range.low, bytes.offset);
         let greatest = moved(bytes.range.high, bytes.offset);

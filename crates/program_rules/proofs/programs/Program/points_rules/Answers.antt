@@ -13,7 +13,6 @@ use Rattle.program_rules.proofs.FirstBroken.{kept-first, refused-first}
 use Rattle.program_rules.proofs.NextRecords.{AreLeft, all-left, is-next, next-record}
 use Rattle.program_rules.proofs.Outcomes.{passed-on}
 use Rattle.program_rules.proofs.PointLists.{one-more-kept, program-first, refused-here}
-use Rattle.program_rules.proofs.ShownParts.{some-grown}
 use Rattle.program_rules.proofs.Spelled.{valid-instr}
 use Rattle.program_rules.proofs.programs.Program.points_rules.Goals as goal
 use Rattle.program_rules.specs.Programs.{thread_of}
@@ -22,27 +21,20 @@ use Rattle.wellformed.specs.Answering.{Answers}
 pub rules-init : goal.rules-init
 rules-init c =
     let own = c.args.self.now.given.space.thread.now in (
-      c.requires.read,
+      c.requires,
       subst (λ (rs : List StateRecord). AreLeft own 0 rs) (sym c.of-records.ensures) (all-left own c.args.self.now.fits),
       refl,
-      c.requires.along,
       λ less. c.at-kept.ensures,
     )
 
-pub point_rules-requires-clause-some : goal.point_rules-requires-clause-some
-point_rules-requires-clause-some c =
+pub point_rules-requires-clause-walked : goal.point_rules-requires-clause-walked
+point_rules-requires-clause-walked c =
     let given = c.args.self.now.given in
-    (c.turn_to.ensures given.space.image.now given.space.thread.now given.slots.now c.rules.points.log c.rules.invariant.3).shown
-
-pub point_rules-requires-clause-same : goal.point_rules-requires-clause-same
-point_rules-requires-clause-same c =
-    let given = c.args.self.now.given in
-    (c.turn_to.ensures given.space.image.now given.space.thread.now given.slots.now c.rules.points.log c.rules.invariant.3).same
-
-pub point_rules-requires-clause-found : goal.point_rules-requires-clause-found
-point_rules-requires-clause-found c =
-    let given = c.args.self.now.given in
-    (c.turn_to.ensures given.space.image.now given.space.thread.now given.slots.now c.rules.points.log c.rules.invariant.3).found
+    let walked = c.rules.invariant.0 in
+    record {
+      read = walked.read;
+      along = c.turn_to.ensures given.space.image.now given.space.thread.now given.slots.now c.rules.points.log walked.along;
+    }
 
 pub at-kept-requires : goal.at-kept-requires
 at-kept-requires c = let entry = c.args.self.now.entry in omega (arith, entry)
@@ -51,7 +43,7 @@ pub point_rules-requires-clause-kept : goal.point_rules-requires-clause-kept
 point_rules-requires-clause-kept c =
     let least = c.rules-test.true in
     let count = c.word_count-point-end.ensures.value in
-    c.rules.invariant.4 (omega (arith, least, count))
+    c.rules.invariant.3 (omega (arith, least, count))
 
 pub pass-requires : goal.pass-requires
 pass-requires c =
@@ -60,7 +52,7 @@ pass-requires c =
     grown-at c.args.self.now.given.space.image.now (thread_of c.args.self.now) c.args.self.now.given.slots.now c.rules.points.log
     c.point_rules.new.points.log c.rules.point
     c.rules.kept
-    c.in_ok-point_rules.ensures.others (c.rules.invariant.4 (omega (arith, least, count)))
+    c.in_ok-point_rules.ensures.others (c.rules.invariant.3 (omega (arith, least, count)))
 
 pub invariant_of-here : goal.invariant_of-here
 invariant_of-here c =
@@ -123,21 +115,11 @@ returns c =
 
 pub rules-preserved : goal.rules-preserved
 rules-preserved c =
-    let image = c.args.self.now.given.space.image.now in
-    let t = thread_of c.args.self.now in
-    let own = c.args.self.now.given.space.thread.now in
-    let log = c.rules.points.log in
-    let along = c.turn_to.ensures image own c.args.self.now.given.slots.now log c.rules.invariant.3 in (
-      c.in_ok-point_rules.ensures.read,
+    let own = c.args.self.now.given.space.thread.now in (
+      c.in_ok-point_rules.ensures.walked,
       subst (λ (rs : List StateRecord). AreLeft own (c.rules.point + 1) rs) (sym c.take-noted.ensures.left)
           (next-record own c.rules.point c.rules.records c.rules.invariant.1).1,
-      one-more-kept (point_rules image t) c.rules.point c.rules.invariant.2 c.in_ok-point_rules.ensures.broken,
-      record {
-        shown = c.in_ok-point_rules.ensures.shown;
-        aside = some-grown log c.point_rules.new.points.log c.turn_to.new.self.aside c.in_ok-point_rules.ensures.others along.aside;
-        left = some-grown log c.point_rules.new.points.log c.turn_to.new.self.left c.in_ok-point_rules.ensures.others along.left;
-        same = c.in_ok-point_rules.ensures.same;
-        found = c.in_ok-point_rules.ensures.found;
-      },
+      one-more-kept (point_rules c.args.self.now.given.space.image.now (thread_of c.args.self.now)) c.rules.point c.rules.invariant.2
+          c.in_ok-point_rules.ensures.broken,
       c.pass.ensures,
     )

@@ -16,26 +16,20 @@ use Rattle.program_rules.specs.declared.views.SeenPoint.{SeenPoint}
 use Rattle.typestate.specs.Calls.{known_with}
 use Rattle.typestate.specs.Strays.{NoneStray}
 
-pub named-requires : goal.named-requires
-named-requires c =
-    let program = c.args.self.now.read.program.now in
-    let slots-are = c.slots-slots.ensures.slots ∙ c.in_ok-show.ensures.same program.given.slots.now program.given.sorted program.given.unlinked in
-    none-outside program.given.space.image.now program.given.space.thread.now _
-    (subst (λ (l : List NotedSlot). NoneStray program.given.space.image.now program.given.space.thread.now l) (sym slots-are)
-    (c.requires.kept.clean c.if-not-known.false))
-
 pub returns-clause-view : goal.returns-clause-view
-returns-clause-view c =
+returns-clause-view c = λ is.
     let program = c.args.self.now.read.program.now in
     let image = program.given.space.image.now in
     let t = thread_of program in
     let known = c.args.known.now in
     let point = c.args.self.now.point in
     let slots-are = c.slots-slots.ensures.slots ∙ c.in_ok-show.ensures.same program.given.slots.now program.given.sorted program.given.unlinked in
+    let nothing = none-outside image t.thread _
+    (subst (λ (l : List NotedSlot). NoneStray image t.thread l) (sym slots-are) (c.requires.kept.clean c.if-not-known.false)) in
     let v : SeenPoint = record { call = c.of_number.result; capability = c.named.result; taken = None; next = Some (c.address.result + 4) } in
     subst (λ (k : Noted). IsView image t point k (Seen v)) c.requires.kept.same
     (call-seen image t point (state_by program.given.slots.now c.args.self.now.read.points.now.log known) v (c.address.result + 4)
-    (c.args.self.now.is ∙ c.requires.is) (c.of_number.ensures ∙ ap (λ (r : Range). call_of r.low) c.get.ensures.range)
-    (c.named.ensures (measure_of known.measure)
+    (c.args.self.now.is ∙ is) (c.of_number.ensures ∙ ap (λ (r : Range). call_of r.low) c.get.ensures.range)
+    (c.named.ensures nothing (measure_of known.measure)
     ∙ ap (λ (l : List NotedSlot). capability_seen image t.thread (known_with known.bounds l (measure_of known.measure))) slots-are)
     refl refl (ap (λ (n : ℕ). n + 4) c.address.ensures))

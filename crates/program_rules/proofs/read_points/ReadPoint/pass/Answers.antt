@@ -14,21 +14,6 @@ returns-then-len-point c = λ less.
     let count = c.args.self.now.read.read.count in
     absurd (omega (arith, less, short, long, count))
 
-pub pass_plain-requires-clause-plain : goal.pass_plain-requires-clause-plain
-pass_plain-requires-clause-plain c =
-    let image = c.args.self.now.read.program.now.given.space.image.now in
-    let t = thread_of c.args.self.now.read.program.now in
-    let slots = c.args.self.now.read.program.now.given.slots.now in
-    let next = c.args.self.now.point + 1 in
-    let long = c.if-len-point.false in
-    let count = c.len.ensures in
-    let inside : next < length c.args.self.now.read.points.now.kept.places.items = omega (arith, long, count) in
-    let p = c.index-place.result.now in
-    let got = some-place c.args.self.now.read.points.now.kept.places.items next p inside ∙ ap (λ (q : Place). Some q) (sym c.index-place.ensures) in
-    let step : IsBehindPlain image t next = subst (IsAt image t slots c.args.self.now.read.points.now.log c.args.self.now.read.points.now.kept next)
-    c.in-Plain.is (c.args.self.now.read.read.noted.each next p got) in
-    (step.plain c.args.self.now.point refl).plain
-
 pub returns-in-Plain : goal.returns-in-Plain
 returns-in-Plain c = λ less.
     let image = c.args.self.now.read.program.now.given.space.image.now in
@@ -41,8 +26,9 @@ returns-in-Plain c = λ less.
     let got = some-place c.args.self.now.read.points.now.kept.places.items next p inside ∙ ap (λ (q : Place). Some q) (sym c.index-place.ensures) in
     let step : IsBehindPlain image t next = subst (IsAt image t slots c.args.self.now.read.points.now.log c.args.self.now.read.points.now.kept next)
     c.in-Plain.is (c.args.self.now.read.read.noted.each next p got) in
-    next-point image t slots c.args.self.now.read.points.now.log c.args.self.now.point c.args.kept.now c.pass_plain.new.kept
-    (step.plain c.args.self.now.point refl) c.requires c.pass_plain.ensures.same c.pass_plain.ensures.sound c.pass_plain.ensures.clean
+    let plain = step.plain c.args.self.now.point refl in
+    next-point image t slots c.args.self.now.read.points.now.log c.args.self.now.point c.args.kept.now c.pass_plain.new.kept plain c.requires
+    (c.pass_plain.ensures.same plain.plain) c.pass_plain.ensures.sound c.pass_plain.ensures.clean
 
 pub returns-in-Called : goal.returns-in-Called
 returns-in-Called c = λ less.

@@ -54,7 +54,7 @@ returns-then-leaves_next-clause-answers c =
     let t = thread_of p.visit.program.now in
     let here = after (address_of t.thread p.visit.point) p.instr p.known.now.bounds in
     let kept : broken_by p here.fall_through ≡ None =
-    c.leaves_next.ensures.plain (state_at p) p.instr c.if-leaves_next.true p.kept p.is p.plain in
+    c.leaves_next.ensures.plain c.args.self.now.read (state_at p) p.instr c.if-leaves_next.true p.kept p.is p.plain in
     subst (λ (x : Option Refusal). Answers x c.taken_rules.result)
     (sym (or-none (broken_by p here.taken))
     ∙ ap (λ (o : Option Refusal). option_or (broken_by p here.taken) o) (sym kept)

@@ -28,7 +28,7 @@ invariant_of-seen c =
 pub show-requires-clause-old : goal.show-requires-clause-old
 show-requires-clause-old c =
     some-grown c.args.points.now.log c.follow.new.self c.args.shown.now c.in_ok-part.ensures.others
-    (some-shown c.args.points.now.log c.args.known.now.part c.args.shown.now c.requires.shown)
+    (some-shown c.args.points.now.log c.args.known.now.part c.args.shown.now c.requires.shows)
 
 pub returns-clause-shown : goal.returns-clause-shown
 returns-clause-shown c =

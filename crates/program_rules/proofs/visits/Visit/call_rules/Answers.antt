@@ -25,57 +25,57 @@ invariant_of-here c = record {
   image = c.slots-slots.ensures.image;
   clean = λ is.
       subst (λ (all : List NotedSlot). NoneStray c.args.self.now.program.now.given.space.image.now c.args.self.now.program.now.given.space.thread.now all)
-      (sym (c.slots-slots.ensures.slots ∙ c.requires.shown.same c.args.self.now.program.now.given.slots.now c.args.self.now.program.now.given.sorted
+      (sym (c.slots-slots.ensures.slots ∙ c.requires.shows.same c.args.self.now.program.now.given.slots.now c.args.self.now.program.now.given.sorted
       c.args.self.now.program.now.given.unlinked))
       (c.requires.kept.clean is);
 }
 
 pub returns-then-leaves_next-clause-broken : goal.returns-then-leaves_next-clause-broken
-returns-then-leaves_next-clause-broken c =
-    c.leaves_next.ensures.call (state_by c.args.self.now.program.now.given.slots.now c.args.points.now.log c.args.known.now) c.if-leaves_next.true
-    c.requires.kept.same
-    c.requires.is
+returns-then-leaves_next-clause-broken c = λ is.
+    c.leaves_next.ensures.call c.requires.read (state_by c.args.self.now.program.now.given.slots.now c.args.points.now.log c.args.known.now)
+    c.if-leaves_next.true c.requires.kept.same
+    is
 
 pub returns-then-leaves_next-clause-shown : goal.returns-then-leaves_next-clause-shown
-returns-then-leaves_next-clause-shown c = some-shown c.args.points.now.log c.args.known.now.part c.args.shown.now c.requires.shown
+returns-then-leaves_next-clause-shown c = some-shown c.args.points.now.log c.args.known.now.part c.args.shown.now c.requires.shows
 
 pub returns-in-Stray-clause-shown : goal.returns-in-Stray-clause-shown
-returns-in-Stray-clause-shown c = some-shown c.args.points.now.log c.args.known.now.part c.args.shown.now c.requires.shown
+returns-in-Stray-clause-shown c = some-shown c.args.points.now.log c.args.known.now.part c.args.shown.now c.requires.shows
 
 pub returns-in-Stray-clause-broken : goal.returns-in-Stray-clause-broken
-returns-in-Stray-clause-broken c =
+returns-in-Stray-clause-broken c = λ is.
     let image = c.args.self.now.program.now.given.space.image.now in
     let t = thread_of c.args.self.now.program.now in
     let m = measure_of c.args.known.now.measure in
     let all = replayed c.args.self.now.program.now.given.slots.now (part_of c.args.points.now.log c.args.known.now.part) in
     let told = call-told image t c.args.self.now.point (state_by c.args.self.now.program.now.given.slots.now c.args.points.now.log c.args.known.now)
     None
-    c.requires.is
+    is
     (call-any image t c.args.self.now.point c.args.known.now.bounds m (slots_of c.slots-slots.result) all c.in_ok-called.field-0
-    (c.slots-slots.ensures.slots ∙ c.requires.shown.same c.args.self.now.program.now.given.slots.now c.args.self.now.program.now.given.sorted
+    (c.slots-slots.ensures.slots ∙ c.requires.shows.same c.args.self.now.program.now.given.slots.now c.args.self.now.program.now.given.sorted
     c.args.self.now.program.now.given.unlinked)
     (c.in_ok-called.ensures.left m)
     ∙ ap (call_of all) c.in-Stray.is) in
     told
 
 pub returns-in-Refused-clause-broken : goal.returns-in-Refused-clause-broken
-returns-in-Refused-clause-broken c =
+returns-in-Refused-clause-broken c = λ is.
     let image = c.args.self.now.program.now.given.space.image.now in
     let t = thread_of c.args.self.now.program.now in
     let m = measure_of c.args.known.now.measure in
     let all = replayed c.args.self.now.program.now.given.slots.now (part_of c.args.points.now.log c.args.known.now.part) in
     let told = call-told image t c.args.self.now.point (state_by c.args.self.now.program.now.given.slots.now c.args.points.now.log c.args.known.now)
     (Some (Err c.in-Refused.refusal))
-    c.requires.is
+    is
     (call-any image t c.args.self.now.point c.args.known.now.bounds m (slots_of c.slots-slots.result) all c.in_ok-called.field-0
-    (c.slots-slots.ensures.slots ∙ c.requires.shown.same c.args.self.now.program.now.given.slots.now c.args.self.now.program.now.given.sorted
+    (c.slots-slots.ensures.slots ∙ c.requires.shows.same c.args.self.now.program.now.given.slots.now c.args.self.now.program.now.given.sorted
     c.args.self.now.program.now.given.unlinked)
     (c.in_ok-called.ensures.left m)
     ∙ ap (call_of all) c.in-Refused.is) in
     inr told
 
 pub returns-in-Leaves-clause-broken : goal.returns-in-Leaves-clause-broken
-returns-in-Leaves-clause-broken c =
+returns-in-Leaves-clause-broken c = λ is.
     let b = c.in-Leaves.behind in
     let made = c.in-Leaves.made.items in
     let image = c.args.self.now.program.now.given.space.image.now in
@@ -84,9 +84,9 @@ returns-in-Leaves-clause-broken c =
     let all = replayed c.args.self.now.program.now.given.slots.now (part_of c.args.points.now.log c.args.known.now.part) in
     let told = call-told image t c.args.self.now.point (state_by c.args.self.now.program.now.given.slots.now c.args.points.now.log c.args.known.now)
     (Some (Ok (behind_with (replayed all made) b)))
-    c.requires.is
+    is
     (call-any image t c.args.self.now.point c.args.known.now.bounds m (slots_of c.slots-slots.result) all c.in_ok-called.field-0
-    (c.slots-slots.ensures.slots ∙ c.requires.shown.same c.args.self.now.program.now.given.slots.now c.args.self.now.program.now.given.sorted
+    (c.slots-slots.ensures.slots ∙ c.requires.shows.same c.args.self.now.program.now.given.slots.now c.args.self.now.program.now.given.sorted
     c.args.self.now.program.now.given.unlinked)
     (c.in_ok-called.ensures.left m)
     ∙ ap (call_of all) c.in-Leaves.is) in

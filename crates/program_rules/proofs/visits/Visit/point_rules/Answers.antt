@@ -4,6 +4,8 @@ use Rattle.model.specs.Acceptance.PointStates.{Known, Missing, Unmeasured, addre
 use Rattle.model.specs.declared.refusals.Refusal.{Refusal}
 use Rattle.program_rules.proofs.OwnKept.{unseen-kept}
 use Rattle.program_rules.proofs.PointLists.{noted-rules}
+use Rattle.program_rules.proofs.ShownParts.{some-shown}
+use Rattle.program_rules.proofs.Walked.{shown-along}
 use Rattle.program_rules.proofs.visits.Visit.point_rules.Goals as goal
 use Rattle.program_rules.specs.Kept.{IsCleanIn, IsKeptAt, IsSound, Kept, noted_by, state_by}
 use Rattle.program_rules.specs.Programs.{thread_of}
@@ -11,11 +13,22 @@ use Rattle.typestate.specs.Logs.{part_of}
 use Rattle.typestate.specs.Replays.{replayed}
 use Rattle.wellformed.specs.Answering.{Answers}
 
-pub state_rules-requires-clause-kept : goal.state_rules-requires-clause-kept
-state_rules-requires-clause-kept c =
-    let image = c.args.self.now.program.now.given.space.image.now in
-    let t = thread_of c.args.self.now.program.now in
-    subst (IsKeptAt image t c.args.self.now.program.now.given.slots.now c.args.points.now.log c.args.self.now.point) c.in-Known.is c.requires.kept
+pub state_rules-requires-clause-here : goal.state_rules-requires-clause-here
+state_rules-requires-clause-here c =
+    let p = c.args.self.now.program.now in
+    record {
+      read = c.requires.walked.read;
+      kept = subst (IsKeptAt p.given.space.image.now (thread_of p) p.given.slots.now c.args.points.now.log c.args.self.now.point) c.in-Known.is
+          c.requires.kept;
+      shows = c.in_ok-show-in-Known.ensures;
+    }
+
+pub state_rules-requires-clause-along : goal.state_rules-requires-clause-along
+state_rules-requires-clause-along c =
+    let p = c.args.self.now.program.now in
+    let log = c.args.points.now.log in
+    shown-along p.given.space.image.now p.given.space.thread.now p.given.slots.now log c.args.walk.now c.show.new.shown
+    (some-shown log c.in-Known.known.part c.show.new.shown c.in_ok-show-in-Known.ensures) c.requires.walked.along
 
 pub returns-in_ok-show-in-Known-clause-broken : goal.returns-in_ok-show-in-Known-clause-broken
 returns-in_ok-show-in-Known-clause-broken c =
@@ -40,10 +53,7 @@ returns-in-Missing c =
         | inr unmeasured ↦ sym (noted-rules image t c.args.self.now.point Unmeasured
             (ap (noted_by c.args.self.now.program.now.given.slots.now c.args.points.now.log) (sym unmeasured) ∙ is.same))
       ];
-      same = c.requires.same;
-      found = c.requires.found;
-      read = c.requires.read;
-      shown = c.requires.some;
+      walked = c.requires.walked;
       others = λ part held. (held, refl);
     }
 
@@ -65,7 +75,7 @@ returns-then-leaves_next-clause-broken c =
     let same : Known s ≡ noted image t v.point = ap (noted_by slots log) (sym c.in-Known.is) ∙ is.same in
     let clean = subst (λ (k : Kept). IsCleanIn image t.thread slots log k) c.in-Known.is is.clean in
     sym (noted-rules image t v.point (Known s) same)
-    ∙ unseen-kept image t v.point s (λ i at plain. c.leaves_next.ensures.plain s i c.if-leaves_next.true same at plain)
-    (λ at. c.leaves_next.ensures.call s c.if-leaves_next.true same at) v.instr v.is
+    ∙ unseen-kept image t v.point s (λ i at plain. c.leaves_next.ensures.plain c.requires.walked.read s i c.if-leaves_next.true same at plain)
+    (λ at. c.leaves_next.ensures.call c.requires.walked.read s c.if-leaves_next.true same at) v.instr v.is
     (c.keeps_own_unseen.ensures.own (replayed slots (part_of log known.part)) c.if-keeps_own_unseen.true clean)
     (λ i at. c.keeps_own_unseen.ensures.ways (address_of t.thread v.point) known.bounds i c.if-keeps_own_unseen.true at)
