@@ -10,6 +10,11 @@ module _ {A : Type 0} (whole : List A) where
   pub copied-all : (xs made : List A) → xs ≡ [] → made ++ xs ≡ whole → made ≡ whole
   copied-all xs made none so_far = sym (append-nil made) ∙ ap (λ (l : List A). made ++ l) (sym none) ∙ so_far
 
+-- of a list that is the whole, before anything is copied
+module _ {A : Type 0} (P : A → Type 0) (whole xs made : List A) (none : made ≡ []) (is : xs ≡ whole) where
+  pub copied-none : All P whole → (made ++ xs ≡ whole) × All P xs
+  copied-none all = (ap (λ (l : List A). l ++ xs) none ∙ is, subst (λ (l : List A). All P l) (sym is) all)
+
 -- of what is left the first one, and the others
 module _ {A : Type 0} (P : A → Type 0) (xs rest : List A) (x : A) (parts : xs ≡ x ∷ rest) (all : All P xs) where
   pub first-of : P x

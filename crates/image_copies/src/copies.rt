@@ -10,8 +10,7 @@ use std::alloc::{AllocError, Global};
 
 /// A thread with its program and the certificate of that.
 fn thread_of(alloc: Global, thread: &ThreadRef<'_>) -> Result<ThreadParts, AllocError>
-    requires { HasThreadCounts thread.now }
-    ensures { IfOk result (λ made. made ≡ thread.now) }
+    ensures { IfOk result (λ made. HasThreadCounts thread.now → made ≡ thread.now) }
 {
     let header = thread.header();
     let registers = entries_of(alloc, thread.registers())?;
@@ -36,8 +35,7 @@ fn thread_of(alloc: Global, thread: &ThreadRef<'_>) -> Result<ThreadParts, Alloc
 
 /// The threads.
 fn threads_of(alloc: Global, threads: Threads<'_>) -> Result<Vec<ThreadParts>, AllocError>
-    requires { All HasThreadCounts threads }
-    ensures { IfOk result (λ all. all.items ≡ threads.entry) }
+    ensures { IfOk result (λ all. All HasThreadCounts threads.entry → all.items ≡ threads.entry) }
 {
     let mut all = Vec::new(alloc);
     for thread in threads {

@@ -71,8 +71,7 @@ pub(crate) fn contents_of(alloc: Global, contents: Contents<'_>) -> Result<Vec<C
 
 /// A promise.
 fn promise_of(alloc: Global, promise: &PromiseRef<'_>) -> Result<Promise, AllocError>
-    requires { HasPromiseCount promise.now }
-    ensures { IfOk result (λ made. made ≡ promise.now) }
+    ensures { IfOk result (λ made. HasPromiseCount promise.now → made ≡ promise.now) }
 {
     let header = promise.header();
     let words = entries_of(alloc, promise.words())?;
@@ -86,8 +85,7 @@ fn promise_of(alloc: Global, promise: &PromiseRef<'_>) -> Result<Promise, AllocE
 
 /// The promises.
 pub(crate) fn promises_of(alloc: Global, promises: Promises<'_>) -> Result<Vec<Promise>, AllocError>
-    requires { All HasPromiseCount promises }
-    ensures { IfOk result (λ all. all.items ≡ promises.entry) }
+    ensures { IfOk result (λ all. All HasPromiseCount promises.entry → all.items ≡ promises.entry) }
 {
     let mut all = Vec::new(alloc);
     for promise in promises {
@@ -122,8 +120,7 @@ fn record_with(
 
 /// A record of a certificate.
 fn record_of(alloc: Global, point: &RecordRef<'_>) -> Result<RecordParts, AllocError>
-    requires { HasRecordCounts point.now }
-    ensures { IfOk result (λ made. made ≡ point.now) }
+    ensures { IfOk result (λ made. HasRecordCounts point.now → made ≡ point.now) }
 {
     let number = point.point();
     let constant = point.constant();
@@ -138,8 +135,7 @@ pub(crate) fn records_of(
     alloc: Global,
     records: Records<'_>,
 ) -> Result<Vec<RecordParts>, AllocError>
-    requires { All HasRecordCounts records }
-    ensures { IfOk result (λ all. all.items ≡ records.entry) }
+    ensures { IfOk result (λ all. All HasRecordCounts records.entry → all.items ≡ records.entry) }
 {
     let mut all = Vec::new(alloc);
     for point in records {
