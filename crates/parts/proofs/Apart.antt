@@ -69,6 +69,9 @@ module _ (objects : ℕ) (takes changes : List ℕ) where
         | false ↦ λ less. refl
       ] refl)
 
+  pub none-in-both : ((n : ℕ) → (is_member n takes && is_member n changes) ≡ false) → true ≡ list_all is_free (range_with_len 0 objects)
+  none-in-both none = sym (of-range is_free 0 objects (λ o le lt. ap not (none o)))
+
   pub apart-is : list_all keeps takes ≡ list_all is_free (range_with_len 0 objects)
   apart-is = both-ways (list_all keeps takes) (list_all is_free (range_with_len 0 objects)) forth back
 

@@ -1,6 +1,6 @@
 -- Loops by what is left: sets that get what passes of a list, and tests of all items.
-use Rattle.std.proofs.Common.{ℕ, zero, suc, ◌≡◌, ◌∙◌, ◌+◌, ◌-◌, ◌<◌, ◌≤◌, ◌==◌, ◌&&◌, ◌||◌, Bool, true, false, List, [], ◌∷◌, Some, length, drop, take, get_or}
-use Rattle.std.proofs.Common.{ap, arith, add-one, drop-cons, refl, sym, take_all}
+use Rattle.std.proofs.Common.{ℕ, zero, suc, ◌≡◌, ◌∙◌, ◌+◌, ◌-◌, ◌<◌, ◌≤◌, ◌==◌, ◌&&◌, ◌||◌, Bool, true, false, List, [], ◌∷◌, ◌++◌, Some, length, drop, take, get_or}
+use Rattle.std.proofs.Common.{ap, append-nil, append_assoc, arith, add-one, drop-cons, refl, sym, take_all}
 use Rattle.std.specs.Prelude.{slice_get}
 use Rattle.std.specs.List.{enumerate_from, list_all, list_any, range_with_len}
 use Rattle.std.proofs.Math.Bool.{or-false, or_assoc}
@@ -51,6 +51,17 @@ module _ {A : Type 0} where
   drop-next xs n x is =
       let at : get_or xs n x ≡ x = get_or_from_slice_get xs n x x is in
       rw (add-one n) (drop-cons xs n x (slice_get_within xs n x is) ∙ ap (λ y. y ∷ drop (suc n) xs) at)
+
+  pub drop-item : (xs : List A) (n : ℕ) (x : A) → n < length xs → x ≡ get_or xs n x → drop n xs ≡ x ∷ drop (n + 1) xs
+  drop-item xs n x lt is = rw (add-one n) (drop-cons xs n x lt ∙ ap (λ y. y ∷ drop (suc n) xs) (sym is))
+
+  -- what was read of a list, with what is left
+  pub read-next : (all xs ys : List A) (x : A) (old new : List A) → xs ≡ x ∷ ys → new ≡ old ++ x ∷ [] → old ++ xs ≡ all → new ++ ys ≡ all
+  read-next all xs ys x old new parts put so_far =
+      ap (λ (l : List A). l ++ ys) put ∙ append_assoc old (x ∷ []) ys ∙ ap (λ (l : List A). old ++ l) (sym parts) ∙ so_far
+
+  pub read-all : (all xs made : List A) → xs ≡ [] → made ++ xs ≡ all → made ≡ all
+  read-all all xs made none so_far = sym (append-nil made) ∙ ap (λ (l : List A). made ++ l) (sym none) ∙ so_far
 
 module _ (cnode : ℕ) (capabilities : List CapabilityEntry) (first end : ℕ) (listed : AreListedIn cnode capabilities first end)
     (test : CapabilityEntry → ℕ → Bool) where

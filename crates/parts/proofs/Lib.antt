@@ -1,6 +1,7 @@
 mod AloneImages
 mod Apart
 mod Left
+mod ObjectSets
 mod OfThreads
 mod Outside
 mod TakenLists

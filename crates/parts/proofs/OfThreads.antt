@@ -1,11 +1,12 @@
 -- What the numbers of what threads take and may change say of the threads.
 use Rattle.std.proofs.Common.{ℕ, zero, suc, ◌≡◌, ◌∙◌, ◌+◌, ◌==◌, ◌<◌, ◌≤◌, ◌&&◌, ◌||◌, Bool, true, false, not, List, [], ◌∷◌, ◌++◌, length, refl, sym, ap}
 use Rattle.std.proofs.Common.{subst, arith}
-use Rattle.std.specs.Prelude.{nat_lt}
+use Rattle.std.specs.Prelude.{Option, Some, is_some, nat_lt, slice_get}
 use Rattle.std.specs.Int.{bit_at}
 use Rattle.std.specs.List.{enumerate_from, list_all, list_any, range_with_len}
 use Rattle.std.proofs.lemmas.Bool.{eqb-true, ne_eqb}
 use Rattle.std.proofs.lemmas.Bool.Decides.{nat_tests}
+use Rattle.std.proofs.lemmas.Option.{none-some, same_Some}
 use Rattle.std.proofs.lemmas.List.{append-nil, append_assoc, length-append}
 use Rattle.headline.specs.parts.Parts.{changes, changes_by, is_above, is_in, takes, takes_by, takes_nothing}
 use Rattle.model.specs.declared.entries.ThreadHeader.{ThreadHeader}
@@ -13,7 +14,7 @@ use Rattle.model.specs.Acceptance.ThreadRules.{is_member, reached}
 use Rattle.model.specs.Capabilities.Rights.{may_write, rights}
 use Rattle.model.specs.Images.Described.{numbered}
 use Rattle.model.specs.Images.Image.{Image, Thread, no_buffer}
-use Rattle.parts.specs.Uses.{AreUses, IsUse, is_high, is_part, is_separate, part_of}
+use Rattle.parts.specs.Uses.{AreUses, ChangesThese, IsUse, TakesThese, is_high, is_part, is_separate, part_of}
 use Rattle.parts.specs.declared.uses.Uses.{Uses}
 
 -- ---- one thread
@@ -108,6 +109,12 @@ module _ (image : Image) (t : Thread) (n : ℕ) (header : ThreadHeader) (cnodes 
       || list_any (λ c. is_member c.cnode cnodes && c.source == image.header.objects + i.0) image.capabilities) nobody
       ∙ ap (λ (s : List ℕ). list_any (λ c. is_member c.cnode s && c.source == image.header.objects + i.0) image.capabilities) found)))
 
+-- an item is there if its number is less than how many there are
+some-within : {A : Type 0} (xs : List A) (n : ℕ) → is_some (slice_get xs n) ≡ nat_lt n (length xs)
+some-within [] n = grind (arith, nat_tests)
+some-within (x ∷ xs) zero = grind (arith, nat_tests)
+some-within (x ∷ xs) (suc n) = some-within xs n ∙ grind (arith, nat_tests)
+
 -- ---- all threads
 
 module _ (image : Image) where
@@ -198,6 +205,40 @@ module _ (image : Image) where
         all-of (is_high threads all a)
         (λ u. not (is_in (part_of image threads) t) || is_in (part_of image threads) u || nat_lt u.header.priority t.header.priority) 0 image.threads all
         (λ u b second. high-is t u a b first second) are) are
+
+  -- ---- by their numbers
+
+  use-at : (k i : ℕ) (threads : List Thread) (all : List Uses) (t : Thread) (u : Uses) → AreUses image k threads all → slice_get threads i ≡ Some t
+      → slice_get all i ≡ Some u → IsUse image t u
+  unfolding AreUses
+  use-at k i [] all t u are here there = absurd (none-some t here)
+  use-at k i (x ∷ xs) [] t u are here there = absurd are
+  use-at k zero (x ∷ xs) (v ∷ all) t u are here there =
+      subst (λ (y : Thread). IsUse image y u) (same_Some x t here) (subst (λ (w : Uses). IsUse image x w) (same_Some v u there) are.1)
+  use-at k (suc i) (x ∷ xs) (v ∷ all) t u are here there = use-at (k + 1) i xs all t u are.2 here there
+
+  as-many : (k : ℕ) (threads : List Thread) (all : List Uses) → AreUses image k threads all → length all ≡ length threads
+  unfolding AreUses
+  as-many k [] [] are = refl
+  as-many k [] (u ∷ all) are = absurd are
+  as-many k (t ∷ threads) [] are = absurd are
+  as-many k (t ∷ threads) (u ∷ all) are = ap suc (as-many (k + 1) threads all are.2)
+
+  module _ (all : List Uses) (n : ℕ) (are : AreUses image 0 image.threads all) where
+    pub takes-at : (u : Uses) (numbers : List ℕ) → image.header.objects ≤ 4096 → slice_get all n ≡ Some u → numbers ≡ u.takes
+        → TakesThese image n numbers
+    takes-at u numbers few at is = λ t object here less.
+        ap (λ (l : List ℕ). is_member object l) is
+        ∙ (use-at 0 n image.threads all t u are here at).takes_these object (ne_eqb object no_buffer (λ e. omega (arith, e, less, few)))
+
+    pub changes-at : (u : Uses) (numbers : List ℕ) → image.header.objects ≤ 4096 → slice_get all n ≡ Some u → numbers ≡ u.changes
+        → ChangesThese image n numbers
+    changes-at u numbers few at is = λ t object here less.
+        ap (λ (l : List ℕ). is_member object l) is
+        ∙ (use-at 0 n image.threads all t u are here at).changes_these object (ne_eqb object no_buffer (λ e. omega (arith, e, less, few)))
+
+    pub is-there : (found : Option Uses) → found ≡ slice_get all n → is_some found ≡ nat_lt n (length image.threads)
+    is-there found is = ap is_some is ∙ some-within all n ∙ ap (nat_lt n) (as-many 0 image.threads all are)
 
   -- ---- one after the other
 

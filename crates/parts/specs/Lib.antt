@@ -1,4 +1,5 @@
 pub mod Alone
+pub mod ObjectSets
 pub mod Outside
 pub mod Promises
 pub mod Taken

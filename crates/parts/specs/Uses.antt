@@ -1,5 +1,5 @@
 -- What threads take and what they may change, as lists of the numbers of objects, and parts by the numbers of their threads.
-use Rattle.std.specs.Prelude.{ℕ, ◌≡◌, ◌==◌, ◌+◌, ◌&&◌, ◌||◌, Bool, false, not, nat_lt, List, [], ◌∷◌}
+use Rattle.std.specs.Prelude.{ℕ, ◌≡◌, ◌==◌, ◌+◌, ◌<◌, ◌&&◌, ◌||◌, Bool, false, not, nat_lt, List, [], ◌∷◌, Some, slice_get}
 use Rattle.std.specs.Int.{bit_at}
 use Rattle.std.specs.List.{list_all, list_any, range_with_len}
 use Rattle.headline.specs.parts.Parts.{Part, changes, takes}
@@ -26,6 +26,16 @@ AreUses image number [] [] = Unit {0}
 AreUses image number (t ∷ threads) (u ∷ uses) = (u.number ≡ number) × IsUse image t u × AreUses image (number + 1) threads uses
 AreUses image number [] (u ∷ uses) = ⊥
 AreUses image number (t ∷ threads) [] = ⊥
+
+-- The objects among these numbers are those that the thread with a number takes.
+abbrev pub TakesThese : Image → ℕ → List ℕ → Type 0
+TakesThese image number numbers =
+    (t : Thread) (object : ℕ) → slice_get image.threads number ≡ Some t → object < image.header.objects → is_member object numbers ≡ takes image t object
+
+-- Those that it may change.
+abbrev pub ChangesThese : Image → ℕ → List ℕ → Type 0
+ChangesThese image number numbers =
+    (t : Thread) (object : ℕ) → slice_get image.threads number ≡ Some t → object < image.header.objects → is_member object numbers ≡ changes image t object
 
 -- ---- the same by these numbers
 

@@ -1,6 +1,6 @@
 //! The threads of an accepted image, with what each takes and may change.
 
-ghost use Rattle.std.specs.Prelude.{◌≡◌, ◌==◌, ◌&&◌, not, nat_lt, All, IfErr, IfOk, List};
+ghost use Rattle.std.specs.Prelude.{◌≡◌, ◌==◌, ◌&&◌, not, nat_lt, All, IfErr, IfOk, IfSome, List, is_some, length, option_map, slice_get};
 ghost use Rattle.std.specs.Int.{bit_at};
 ghost use Rattle.std.specs.List.{list_all, range_with_len};
 ghost use Rattle.headline.specs.parts.Given.{AllHoldGiven};
@@ -15,11 +15,11 @@ ghost use Rattle.model.specs.declared.refusals.Refusal.TheVariants.{OutOfMemory}
 ghost use Rattle.parts.specs.Alone.{WhyNotAlone};
 ghost use Rattle.parts.specs.Promises.{IsUndisturbed, RunsAsAlone};
 ghost use Rattle.parts.specs.Taken.{taken};
-ghost use Rattle.parts.specs.Uses.{AreUses, is_high, is_part, is_separate, part_of};
+ghost use Rattle.parts.specs.Uses.{AreUses, ChangesThese, TakesThese, is_high, is_part, is_separate, part_of};
 
 use crate::alone::{Alone, NotAlone, alone_of};
 use crate::taken::{Taken, all_taken};
-use crate::uses::{Uses, uses_of};
+use crate::uses::{Uses, frames_of, uses_of};
 use headline::parts::threads_never_hold_more;
 use image_reading::{ImageRef, header_of};
 use model::Refusal;
@@ -27,6 +27,7 @@ use part_laws::promised::{accepted_parts_above_are_undisturbed, accepted_parts_r
 use std::alloc::{AllocError, Global};
 use std::marker::Model;
 use verify::Accepted;
+use wellformed::NumberSet;
 
 /// The threads of an accepted image, with what each takes and may change. A part is a set of threads, as a word: bit N is thread N of the
 /// image, from 0 on. Bits of no thread count for nothing.
@@ -54,11 +55,11 @@ fn is_set(word: u64, bit: usize) -> bool
     bit < 64 && word >> bit & 1 == 1
 }
 
-/// Whether a thread is of a part and has a control block.
+/// Whether a thread is of a part and has a control block. Most have another one.
 fn has_block(threads: u64, uses: &Uses, tcb: u32) -> bool
     ensures { result ≡ (bit_at threads uses.now.number == 1 && uses.now.tcb == tcb) }
 {
-    is_set(threads, uses.number) && uses.tcb == tcb
+    uses.tcb == tcb && is_set(threads, uses.number)
 }
 
 /// Whether a control block is that of a thread of a part.
@@ -87,16 +88,26 @@ fn may_change(objects: u32, other: &Uses, object: u32) -> bool
     object < objects && other.changes.contains(object)
 }
 
-/// Whether one thread takes none of so many objects that another may change. It goes through those that it takes.
-pub(crate) fn is_apart(objects: u32, taker: &Uses, other: &Uses) -> bool
-    ensures { result ≡ list_all (λ object. not (is_member object taker.now.takes && is_member object other.now.changes)) (range_with_len 0 objects) }
+/// Whether a thread may change none of those of so many objects that are in a set. It goes through the set.
+fn changes_none(objects: u32, takes: &NumberSet, other: &Uses) -> bool
+    ensures { result ≡ list_all (λ object. not (is_member object takes.now && is_member object other.now.changes)) (range_with_len 0 objects) }
 {
-    for place in 0..taker.takes.len() {
-        if may_change(objects, other, taker.takes.at(place)) {
+    for place in 0..takes.len() {
+        if may_change(objects, other, takes.at(place)) {
             return false;
         }
     }
     true
+}
+
+/// Whether one thread takes none of so many objects that another may change. Mostly this is seen at once.
+pub(crate) fn is_apart(objects: u32, taker: &Uses, other: &Uses) -> bool
+    ensures { result ≡ list_all (λ object. not (is_member object taker.now.takes && is_member object other.now.changes)) (range_with_len 0 objects) }
+{
+    if taker.takes.is_apart(&other.changes) {
+        return true;
+    }
+    changes_none(objects, taker.takes.numbers(), other)
 }
 
 /// Whether a thread takes nothing from another, or is not of the part, or the other is.
@@ -174,9 +185,10 @@ fn all_uses(alloc: Global, image: &ImageRef<'_>) -> Result<Vec<Uses>, Refusal>
     ensures uses { IfOk result (λ uses. AreUses image.now 0 image.now.threads uses.items) }
     ensures memory { IfErr result (λ refusal. refusal ≡ OutOfMemory) }
 {
+    let frames = frames_of(alloc, image)?;
     let mut all = Vec::new(alloc);
     for thread in image.threads() {
-        let uses = uses_of(alloc, image, all.len(), &thread)?;
+        let uses = uses_of(alloc, image, frames.as_slice(), all.len(), &thread)?;
         all.push(uses)?;
     }
     Ok(all)
@@ -201,6 +213,13 @@ pub fn parts_of<'i, 'a>(alloc: Global, accepted: &'i Accepted<'a>) -> Result<Par
     Ok(Parts { accepted, uses })
 }
 
+/// What a thread takes and may change, by its number.
+fn uses_at(all: &[Uses], thread: usize) -> Option<&Uses>
+    ensures { option_map (λ uses. uses.now) result ≡ slice_get all.now thread }
+{
+    all.get(thread)
+}
+
 impl Parts<'_, '_> {
     /// Whether nothing that a thread of the part takes may be changed by a thread outside of it.
     pub fn takes_nothing(&self, threads: u64) -> bool
@@ -208,6 +227,30 @@ impl Parts<'_, '_> {
     {
         let objects = header_of(self.accepted.image()).objects;
         all_take_nothing(objects, self.uses.as_slice(), threads)
+    }
+
+    /// The numbers of what a thread takes, with some that are of no object, if there is a thread with this number.
+    pub fn taken_by(&self, thread: usize) -> Option<&NumberSet>
+        ensures there { is_some result ≡ nat_lt thread (length self.now.threads) }
+        ensures numbers { IfSome result (λ set. TakesThese self.now thread set.now) }
+    {
+        let _ = header_of(self.accepted.image());
+        match uses_at(self.uses.as_slice(), thread) {
+            Some(uses) => Some(uses.takes.numbers()),
+            None => None,
+        }
+    }
+
+    /// The numbers of what a thread may change, likewise.
+    pub fn changed_by(&self, thread: usize) -> Option<&NumberSet>
+        ensures there { is_some result ≡ nat_lt thread (length self.now.threads) }
+        ensures numbers { IfSome result (λ set. ChangesThese self.now thread set.now) }
+    {
+        let _ = header_of(self.accepted.image());
+        match uses_at(self.uses.as_slice(), thread) {
+            Some(uses) => Some(uses.changes.numbers()),
+            None => None,
+        }
     }
 
     /// Whether the part's priorities are above those of all others.

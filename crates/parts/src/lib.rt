@@ -3,6 +3,7 @@
 
 mod alone;
 mod image_parts;
+mod object_sets;
 mod outside_laws;
 mod taken;
 mod uses;

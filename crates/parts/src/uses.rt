@@ -10,6 +10,7 @@ ghost use Rattle.model.specs.Images.Image.{no_buffer};
 ghost use Rattle.model.specs.declared.refusals.Refusal.TheVariants.{OutOfMemory};
 ghost use Rattle.parts.specs.Uses.{IsUse};
 
+use crate::object_sets::ObjectSet;
 use image_reading::{ImageRef, ThreadRef, capability_of, header_of, listed_in};
 use model::{CapabilityEntry, FrameEntry, Refusal};
 use std::alloc::Global;
@@ -33,9 +34,9 @@ pub(crate) struct Uses {
     pub(crate) tcb: u32,
     pub(crate) priority: u32,
     /// The objects that it takes.
-    pub(crate) takes: NumberSet,
+    pub(crate) takes: ObjectSet,
     /// Those that it may change.
-    pub(crate) changes: NumberSet,
+    pub(crate) changes: ObjectSet,
 }
 
 /// Puts a number into a set, if a test was passed.
@@ -140,43 +141,49 @@ fn note_capabilities(
     Ok(())
 }
 
-/// Whether a frame is mapped under a root table so that it may be written.
-fn is_written(root: u32, entry: FrameEntry) -> bool
-    ensures { result ≡ (entry.root == root && may_write (rights entry.rights)) }
-{
-    entry.root == root && may_write(entry.rights)
-}
-
 /// One frame that is mapped more, if it is so under the thread's root table.
 fn note_frame(
-    root: u32,
-    entry: FrameEntry,
+    is_own: bool,
+    entry: &FrameEntry,
     takes: &mut NumberSet,
     changes: &mut NumberSet,
 ) -> Result<(), Refusal>
-    ensures takes { OnOk result ((n : ℕ) → is_member n takes.new ≡ (is_member n takes.old || (entry.root == root && entry.frame == n))) }
+    ensures takes { OnOk result ((n : ℕ) → is_member n takes.new ≡ (is_member n takes.old || (is_own && entry.now.frame == n))) }
     ensures changes { OnOk result ((n : ℕ) → is_member n changes.new
-        ≡ (is_member n changes.old || ((entry.root == root && may_write (rights entry.rights)) && entry.frame == n))) }
+        ≡ (is_member n changes.old || ((is_own && may_write (rights entry.now.rights)) && entry.now.frame == n))) }
     ensures memory { IfErr result (λ refusal. refusal ≡ OutOfMemory) }
 {
-    put_if(takes, entry.root == root, entry.frame)?;
-    put_if(changes, is_written(root, entry), entry.frame)
+    put_if(takes, is_own, entry.frame)?;
+    put_if(changes, is_own && may_write(entry.rights), entry.frame)
+}
+
+/// The mapped frames of an image, which are read once for all threads. Memory may be refused.
+pub(crate) fn frames_of(alloc: Global, image: &ImageRef<'_>) -> Result<Vec<FrameEntry>, Refusal>
+    ensures frames { IfOk result (λ frames. frames.items ≡ image.now.frames) }
+    ensures memory { IfErr result (λ refusal. refusal ≡ OutOfMemory) }
+{
+    let mut frames = Vec::new(alloc);
+    for entry in image.frames() {
+        frames.push(entry)?;
+    }
+    Ok(frames)
 }
 
 /// The frames that are mapped under a root table.
 fn note_frames(
-    image: &ImageRef<'_>,
+    frames: &[FrameEntry],
     root: u32,
     takes: &mut NumberSet,
     changes: &mut NumberSet,
 ) -> Result<(), Refusal>
-    ensures takes { OnOk result ((n : ℕ) → is_member n takes.new ≡ (is_member n takes.old || list_any (λ f. f.root == root && f.frame == n) image.now.frames)) }
+    ensures takes { OnOk result ((n : ℕ) → is_member n takes.new ≡ (is_member n takes.old || list_any (λ f. f.root == root && f.frame == n) frames.now)) }
     ensures changes { OnOk result ((n : ℕ) → is_member n changes.new
-        ≡ (is_member n changes.old || list_any (λ f. (f.root == root && may_write (rights f.rights)) && f.frame == n) image.now.frames)) }
+        ≡ (is_member n changes.old || list_any (λ f. (f.root == root && may_write (rights f.rights)) && f.frame == n) frames.now)) }
     ensures memory { IfErr result (λ refusal. refusal ≡ OutOfMemory) }
 {
-    for entry in image.frames() {
-        note_frame(root, entry, takes, changes)?;
+    for entry in frames {
+        let is_own = entry.root == root;
+        note_frame(is_own, entry, takes, changes)?;
     }
     Ok(())
 }
@@ -211,15 +218,16 @@ fn note_lines(
     Ok(())
 }
 
-/// What a thread takes and what it may change.
+/// What a thread takes and what it may change, in an image with these frames.
 pub(crate) fn uses_of(
     alloc: Global,
     image: &ImageRef<'_>,
+    frames: &[FrameEntry],
     number: usize,
     thread: &ThreadRef<'_>,
 ) -> Result<Uses, Refusal>
     ensures number { IfOk result (λ uses. uses.number ≡ number) }
-    ensures uses { IfOk result (IsUse image.now thread.now) }
+    ensures uses { IfOk result (λ uses. frames.now ≡ image.now.frames → IsUse image.now thread.now uses) }
     ensures memory { IfErr result (λ refusal. refusal ≡ OutOfMemory) }
 {
     let header = thread.header();
@@ -227,15 +235,17 @@ pub(crate) fn uses_of(
     let mut sources = NumberSet::new(alloc);
     let mut takes = NumberSet::new(alloc);
     let mut changes = NumberSet::new(alloc);
-    note_frames(image, header.root, &mut takes, &mut changes)?;
+    note_frames(frames, header.root, &mut takes, &mut changes)?;
     note_capabilities(image, &cnodes, &mut sources, &mut takes, &mut changes)?;
     note_buffer(header.buffer, &mut takes, &mut changes)?;
     note_lines(image, &sources, &mut changes)?;
+    let taken = ObjectSet::of(alloc, takes)?;
+    let changed = ObjectSet::of(alloc, changes)?;
     Ok(Uses {
         number,
         tcb: header.tcb,
         priority: header.priority,
-        takes,
-        changes,
+        takes: taken,
+        changes: changed,
     })
 }

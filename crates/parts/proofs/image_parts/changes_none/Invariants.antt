@@ -2,7 +2,7 @@
 use Rattle.std.proofs.Common.{◌≡◌, true, take}
 use Rattle.std.specs.List.{list_all}
 use Rattle.parts.proofs.Apart.{keeps}
-use Rattle.parts.proofs.image_parts.is_apart.Given as goal
+use Rattle.parts.proofs.image_parts.changes_none.Given as goal
 
 abbrev pub invariant-loop-place : goal.invariant-loop-place
-invariant-loop-place l = list_all (keeps l.fn.objects l.fn.taker.takes l.fn.other.changes) (take l.place l.fn.taker.takes) ≡ true
+invariant-loop-place l = list_all (keeps l.fn.objects l.fn.takes l.fn.other.changes) (take l.place l.fn.takes) ≡ true
