@@ -3,6 +3,8 @@
 
   tools/parts/large.py write KIND FILE    its text; KIND is `apart`, where each thread has objects of its own, or `common`
   tools/parts/large.py times PROGRAM      what `microsys_tool verify` and `parts` take of both kinds, in seconds of the processor
+
+Where all is common each two threads have two lines and one that says how many more there are, and all are one group.
 """
 
 import os
@@ -12,6 +14,8 @@ import sys
 import tempfile
 
 KINDS = ["apart", "common"]
+# how many lines `parts` has of each
+LINES = {"apart": 64, "common": 3 * 64 * 63 // 2 + 1}
 THREADS, OBJECTS, CAPABILITIES, FRAMES = 64, 4096, 16384, 4096
 CAPS, PAGES = CAPABILITIES // THREADS, FRAMES // THREADS
 
@@ -65,6 +69,7 @@ def times(program):
                 file.write(system(kind))
             seconds(program, "build", text, image)
             (verified, _), (said, lines) = seconds(program, "verify", image), seconds(program, "parts", image)
+            assert lines == LINES[kind], f"{kind}: {lines} lines"
             print(f"{kind}: verify {verified:.2f} s, parts {said:.2f} s and {lines} lines")
 
 

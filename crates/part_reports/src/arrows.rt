@@ -1,59 +1,55 @@
 //! Which threads may change what which others take.
 
 use crate::names::{is_of, name_of, only};
-use crate::uses::{Side, Uses};
-use parts::{Parts, Taken};
+use crate::objects::{Between, ThreadObjects, first_object, without_first};
+use crate::uses::{Side, Uses, put_words};
+use parts::Parts;
 use source_texts::SourceText;
 use std::alloc::{AllocError, Global};
 
-/// How many objects are named between one thread and another: who shares more shares pages by the hundred.
-const NAMED: usize = 8;
+/// Up to so many objects between one thread and another each have a line.
+const ALL_NAMED: u32 = 8;
+
+/// Of more objects these have one, as examples: who shares more shares pages by the hundred.
+const FIRST_NAMED: u32 = 2;
 
 /// All arrows of an image: an arrow is what one thread may change and another takes.
 #[derive(Drop)]
 pub(crate) struct Arrows {
-    /// By those who take: in the order of the others, and of the objects.
-    all: Vec<Vec<Taken>>,
-    /// Of each thread, by the objects, the set of those that may change what it takes; nothing where it takes nothing from others.
-    changers: Vec<Vec<u64>>,
+    /// What each thread takes and may change.
+    objects: Vec<ThreadObjects>,
     /// Of each thread those that may change what it takes.
     into: Vec<u64>,
 }
 
-/// By the numbers of objects those that may change them, of what one thread takes.
-fn changers_of(alloc: Global, objects: usize, taken: &[Taken]) -> Result<Vec<u64>, AllocError> {
-    let mut changers = Vec::new(alloc);
-    if taken.is_empty() {
-        return Ok(changers);
-    }
-    changers.resize(objects, 0u64)?;
-    for found in taken {
-        if let Some(others) = changers.get_mut(found.object as usize) {
-            *others |= only(found.other);
+/// An arrow by one object.
+#[derive(Clone, Copy)]
+struct Arrow {
+    taker: usize,
+    other: usize,
+    object: usize,
+    /// Whether there is one the other way.
+    is_both: bool,
+}
+
+/// The threads that may change what one takes.
+fn changers_of(all: &[ThreadObjects], taker: usize) -> u64 {
+    let Some(own) = all.get(taker) else {
+        return 0;
+    };
+    let mut others = 0;
+    for (number, other) in all.iter().enumerate() {
+        if number != taker && own.takes_from(other) {
+            others |= only(number);
         }
     }
-    Ok(changers)
+    others
 }
 
 impl Arrows {
-    /// What a thread takes that others may change.
-    fn add(
-        &mut self,
-        alloc: Global,
-        objects: usize,
-        parts: &Parts<'_, '_>,
-        to: usize,
-    ) -> Result<(), AllocError> {
-        let taken = parts.taken(alloc, only(to))?;
-        let changers = changers_of(alloc, objects, taken.as_slice())?;
-        let mut others = 0;
-        for found in taken.iter() {
-            others |= only(found.other);
-        }
-        self.all.push(taken)?;
-        self.changers.push(changers)?;
-        self.into.push(others)?;
-        Ok(())
+    /// Whether there are none.
+    pub(crate) fn is_empty(&self) -> bool {
+        self.into.iter().all(|others| *others == 0)
     }
 
     /// The threads that may change what a thread takes.
@@ -75,59 +71,32 @@ impl Arrows {
         others & !threads
     }
 
-    /// Whether there is an arrow the other way by the same object.
-    fn is_turned(&self, arrow: Taken) -> bool {
-        let changers = match self.changers.get(arrow.other) {
-            Some(changers) => changers.get(arrow.object as usize),
-            None => None,
-        };
-        match changers {
-            Some(others) => is_of(*others, arrow.taker),
-            None => false,
-        }
+    /// The lines from one thread to another: with those of objects for which there is an arrow the other way, too, or without.
+    fn lines_of(&self, taker: usize, other: usize, has_both: bool) -> Option<Lines<'_>> {
+        let between = Between::new(self.objects.get(taker)?, self.objects.get(other)?, has_both);
+        Some(Lines {
+            taker,
+            other,
+            between,
+        })
     }
 
-    /// The line that an arrow has: two that are opposite have one, which says it of both. `is_alone` is whether the other of the two has
-    /// none.
-    fn line_of(&self, arrow: Taken, is_alone: bool) -> Option<(Taken, &'static str)> {
-        let turned = Taken {
-            taker: arrow.other,
-            other: arrow.taker,
-            ..arrow
-        };
-        if !self.is_turned(arrow) {
-            Some((arrow, "->"))
-        } else if arrow.other < arrow.taker {
-            Some((arrow, "<->"))
-        } else if is_alone {
-            Some((turned, "<->"))
-        } else {
-            None
-        }
-    }
-
-    /// Puts a line for each two threads and each object that one may change and the other takes: of more than [`NAMED`] objects
-    /// between two the first, and how many more.
+    /// Puts a line for each two threads and each object that one may change and the other takes: of more than [`ALL_NAMED`] objects
+    /// between two the first, and how many more. Two that are opposite have one line, where the first of both threads changes.
     pub(crate) fn put_all(
         &self,
         text: &SourceText<'_>,
         uses: &[Uses],
         lines: &mut String,
     ) -> Result<(), AllocError> {
-        for taken in self.all.iter() {
-            let mut between = Between::default();
-            for arrow in taken.iter() {
-                if let Some((said, sign)) = self.line_of(*arrow, false) {
-                    if !between.is_of(said) {
-                        between.end(text, lines)?;
-                        between = Between::new(said);
-                    }
-                    if between.is_named() {
-                        put_arrow(text, uses, said, sign, lines)?;
+        for taker in 0..self.into.len() {
+            for other in 0..self.into.len() {
+                if is_of(self.into(taker), other) {
+                    if let Some(found) = self.lines_of(taker, other, other < taker) {
+                        found.put(text, uses, lines)?;
                     }
                 }
             }
-            between.end(text, lines)?;
         }
         Ok(())
     }
@@ -140,11 +109,11 @@ impl Arrows {
         threads: u64,
         lines: &mut String,
     ) -> Result<(), AllocError> {
-        for taken in self.all.iter() {
-            for arrow in taken.iter() {
-                if is_of(threads, arrow.taker) && !is_of(threads, arrow.other) {
-                    if let Some((said, sign)) = self.line_of(*arrow, true) {
-                        put_arrow(text, uses, said, sign, lines)?;
+        for taker in 0..self.into.len() {
+            for other in 0..self.into.len() {
+                if is_of(threads, taker) && is_of(self.into(taker) & !threads, other) {
+                    if let Some(found) = self.lines_of(taker, other, true) {
+                        found.put_first(text, uses, u32::MAX, lines)?;
                     }
                 }
             }
@@ -154,43 +123,68 @@ impl Arrows {
 }
 
 /// The lines from one thread to another.
-#[derive(Clone, Copy, Default)]
-struct Between {
-    other: usize,
+#[derive(Clone, Copy)]
+struct Lines<'o> {
     taker: usize,
-    /// How many there are so far.
-    lines: usize,
+    other: usize,
+    between: Between<'o>,
 }
 
-impl Between {
-    /// The lines to come of an arrow's threads.
-    fn new(arrow: Taken) -> Self {
-        Between {
-            other: arrow.other,
-            taker: arrow.taker,
-            lines: 0,
+impl Lines<'_> {
+    /// The arrow by an object.
+    fn arrow(&self, object: usize) -> Arrow {
+        Arrow {
+            taker: self.taker,
+            other: self.other,
+            object,
+            is_both: self.between.is_both(object),
         }
     }
 
-    /// Whether an arrow is between these threads.
-    fn is_of(self, arrow: Taken) -> bool {
-        self.other == arrow.other && self.taker == arrow.taker
-    }
-
-    /// One line more: whether it is put.
-    fn is_named(&mut self) -> bool {
-        self.lines = self.lines.saturating_add(1);
-        self.lines <= NAMED
-    }
-
-    /// Puts how many lines were not put.
-    fn end(self, text: &SourceText<'_>, lines: &mut String) -> Result<(), AllocError> {
-        if self.lines <= NAMED {
-            return Ok(());
+    /// Puts so many of them.
+    fn put_first(
+        &self,
+        text: &SourceText<'_>,
+        uses: &[Uses],
+        many: u32,
+        lines: &mut String,
+    ) -> Result<(), AllocError> {
+        let mut left = many;
+        for place in 0..self.between.places() {
+            let mut word = self.between.word(place);
+            for _ in 0..word.count_ones().min(left) {
+                put_arrow(text, uses, self.arrow(first_object(place, word)), lines)?;
+                word = without_first(word);
+                left = left.saturating_sub(1);
+            }
         }
+        Ok(())
+    }
+
+    /// Puts how many more there are.
+    fn put_more(
+        &self,
+        text: &SourceText<'_>,
+        more: u32,
+        lines: &mut String,
+    ) -> Result<(), AllocError> {
         let (from, to) = (name_of(text, self.other), name_of(text, self.taker));
-        let more = self.lines - NAMED;
         write!(lines, "{from}, {to}: and {more} more such\n")
+    }
+
+    /// Puts all of them, or of many the first and how many more there are.
+    fn put(
+        &self,
+        text: &SourceText<'_>,
+        uses: &[Uses],
+        lines: &mut String,
+    ) -> Result<(), AllocError> {
+        let count = self.between.count();
+        if count <= ALL_NAMED {
+            return self.put_first(text, uses, count, lines);
+        }
+        self.put_first(text, uses, FIRST_NAMED, lines)?;
+        self.put_more(text, count.saturating_sub(FIRST_NAMED), lines)
     }
 }
 
@@ -209,26 +203,38 @@ fn put_side(
     }
 }
 
-/// Puts the line of an arrow.
+/// Puts the line of an arrow. One that is for both ways begins with the first thread.
 fn put_arrow(
     text: &SourceText<'_>,
     uses: &[Uses],
-    arrow: Taken,
-    sign: &str,
+    arrow: Arrow,
     lines: &mut String,
 ) -> Result<(), AllocError> {
-    let object = arrow.object as usize;
-    let (from, to) = (name_of(text, arrow.other), name_of(text, arrow.taker));
-    let by = text.object_name(object);
-    let (first, second) = if sign == "->" {
-        (Side::Changes, Side::Takes)
+    let (from, to) = if arrow.is_both && arrow.taker < arrow.other {
+        (arrow.taker, arrow.other)
     } else {
-        (Side::Both, Side::Both)
+        (arrow.other, arrow.taker)
     };
-    write!(lines, "{from} {sign} {to} by {by}: ")?;
-    put_side(text, uses, arrow.other, object, first, lines)?;
+    let (sign, first, second) = if arrow.is_both {
+        (" <-> ", Side::Both, Side::Both)
+    } else {
+        (" -> ", Side::Changes, Side::Takes)
+    };
+    let by = text.object_name(arrow.object);
+    put_words(
+        &[
+            name_of(text, from),
+            sign,
+            name_of(text, to),
+            " by ",
+            by,
+            ": ",
+        ],
+        lines,
+    )?;
+    put_side(text, uses, from, arrow.object, first, lines)?;
     lines.push_str("; ")?;
-    put_side(text, uses, arrow.taker, object, second, lines)?;
+    put_side(text, uses, to, arrow.object, second, lines)?;
     lines.push_str("\n")
 }
 
@@ -239,13 +245,13 @@ pub(crate) fn arrows_of(
     threads: usize,
     parts: &Parts<'_, '_>,
 ) -> Result<Arrows, AllocError> {
-    let mut arrows = Arrows {
-        all: Vec::new(alloc),
-        changers: Vec::new(alloc),
-        into: Vec::new(alloc),
-    };
+    let mut all = Vec::new(alloc);
     for number in 0..threads {
-        arrows.add(alloc, objects, parts, number)?;
+        all.push(ThreadObjects::of(alloc, objects, parts, number)?)?;
     }
-    Ok(arrows)
+    let mut into = Vec::new(alloc);
+    for number in 0..threads {
+        into.push(changers_of(all.as_slice(), number))?;
+    }
+    Ok(Arrows { objects: all, into })
 }

@@ -4,6 +4,7 @@
 mod arrows;
 mod groups;
 mod names;
+mod objects;
 mod reports;
 mod texts;
 mod uses;

@@ -76,8 +76,23 @@ fn put_only_group(
     write!(lines, "one group: {names}\n")
 }
 
+/// Puts the lines of all arrows. Where there are none it is not asked what makes them so.
+fn put_arrows(
+    alloc: Global,
+    text: &SourceText<'_>,
+    image: &ImageRef<'_>,
+    arrows: &Arrows,
+    lines: &mut String,
+) -> Result<(), AllocError> {
+    if arrows.is_empty() {
+        return Ok(());
+    }
+    let uses = all_uses(alloc, text, image)?;
+    arrows.put_all(text, uses.as_slice(), lines)
+}
+
 /// The parts of an accepted image, with the names of its text: a line for each two of them and each object that one may change and the
-/// other takes (of more than eight objects between two the first, and how many more), and then one for each group.
+/// other takes (of more than eight objects between two the first two, and how many more), and then one for each group.
 ///
 /// # Errors
 ///
@@ -88,11 +103,10 @@ pub fn parts_report(
     image: &ImageRef<'_>,
     parts: &Parts<'_, '_>,
 ) -> Result<String, AllocError> {
-    let uses = all_uses(alloc, text, image)?;
     let arrows = arrows_of(alloc, text.objects.len(), text.threads.len(), parts)?;
     let groups = groups_of(alloc, text.threads.len(), &arrows)?;
     let mut lines = String::new(alloc);
-    arrows.put_all(text, uses.as_slice(), &mut lines)?;
+    put_arrows(alloc, text, image, &arrows, &mut lines)?;
     if groups.all().len() == 1 {
         put_only_group(alloc, text, &mut lines)?;
     } else {

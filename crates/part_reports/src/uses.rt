@@ -1,7 +1,6 @@
 //! What each thread of a text does with each object, and by which capability, mapping or handler.
 
 use image_reading::{ImageRef, ThreadRef};
-use indexmap::IndexMap;
 use model::{ObjectKind, ObjectType};
 use source_texts::{CapabilityLine, FrameLine, Source, SourceText, SourceThread};
 use std::alloc::{AllocError, Global};
@@ -12,6 +11,9 @@ use wellformed::NumberSet;
 const WRITE: u32 = 1;
 
 const READ: u32 = 2;
+
+/// The number of no thread.
+const NOBODY: usize = usize::MAX;
 
 /// What is done with an object.
 #[derive(Clone, Copy)]
@@ -50,6 +52,7 @@ enum Place {
 /// Something that a thread does with an object.
 #[derive(Clone, Copy)]
 struct Use {
+    object: usize,
     deed: Deed,
     place: Place,
 }
@@ -94,10 +97,10 @@ pub(crate) enum Side {
     Both,
 }
 
-/// What a thread does with each object that it may use.
+/// What a thread does with each object that it may use: once all of it is known, in the order of the objects.
 #[derive(Drop)]
 pub(crate) struct Uses {
-    of: IndexMap<usize, Vec<Use>>,
+    all: Vec<Use>,
 }
 
 /// Whether a word of rights has a right.
@@ -107,38 +110,36 @@ fn has(rights: u32, right: u32) -> bool {
 
 impl Uses {
     /// One use more.
-    fn add(
-        &mut self,
-        alloc: Global,
-        object: usize,
-        deed: Deed,
-        place: Place,
-    ) -> Result<(), AllocError> {
-        let found = Use { deed, place };
-        if let Some(uses) = self.of.get_mut(&object) {
-            uses.push(found)?;
-            return Ok(());
-        }
-        let mut uses = Vec::new(alloc);
-        uses.push(found)?;
-        self.of.insert(object, uses)?;
+    fn add(&mut self, object: usize, deed: Deed, place: Place) -> Result<(), AllocError> {
+        self.all.push(Use {
+            object,
+            deed,
+            place,
+        })?;
         Ok(())
     }
 
+    /// What is done with an object, in the order in which it was found.
+    fn of(&self, object: usize) -> &[Use] {
+        let first = self.all.partition_point(|found| found.object < object);
+        let (_, rest) = self.all.split_at(first.min(self.all.len()));
+        let count = rest.partition_point(|found| found.object <= object);
+        rest.split_at(count.min(rest.len())).0
+    }
+
     /// What a mapping allows.
-    fn add_frame(&mut self, alloc: Global, frame: &FrameLine) -> Result<(), AllocError> {
+    fn add_frame(&mut self, frame: &FrameLine) -> Result<(), AllocError> {
         let deed = if has(frame.rights, WRITE) {
             Deed::Stores
         } else {
             Deed::Loads
         };
-        self.add(alloc, frame.frame, deed, Place::Address(frame.address))
+        self.add(frame.frame, deed, Place::Address(frame.address))
     }
 
     /// What a capability to an object allows.
     fn add_capability(
         &mut self,
-        alloc: Global,
         text: &SourceText<'_>,
         capability: &CapabilityLine,
         object: usize,
@@ -155,10 +156,10 @@ impl Uses {
             _ => (Deed::Holds, Deed::Holds),
         };
         if has(capability.rights, READ) {
-            self.add(alloc, object, read, place)?;
+            self.add(object, read, place)?;
         }
         if has(capability.rights, WRITE) {
-            self.add(alloc, object, written, place)?;
+            self.add(object, written, place)?;
         }
         Ok(())
     }
@@ -166,7 +167,6 @@ impl Uses {
     /// What a handler allows: it is for the notification that its line signals.
     fn add_handler(
         &mut self,
-        alloc: Global,
         text: &SourceText<'_>,
         capability: &CapabilityLine,
         interrupt: usize,
@@ -178,7 +178,7 @@ impl Uses {
         match text.interrupts.get(interrupt) {
             Some(line) => {
                 let deed = Deed::Acknowledges(line.number);
-                self.add(alloc, line.notification, deed, place)
+                self.add(line.notification, deed, place)
             }
             None => Ok(()),
         }
@@ -187,13 +187,12 @@ impl Uses {
     /// What a capability in one of the thread's CNodes allows.
     fn add_held(
         &mut self,
-        alloc: Global,
         text: &SourceText<'_>,
         capability: &CapabilityLine,
     ) -> Result<(), AllocError> {
         match capability.source {
-            Source::Object(object) => self.add_capability(alloc, text, capability, object),
-            Source::Interrupt(number) => self.add_handler(alloc, text, capability, number),
+            Source::Object(object) => self.add_capability(text, capability, object),
+            Source::Interrupt(number) => self.add_handler(text, capability, number),
         }
     }
 
@@ -207,11 +206,8 @@ impl Uses {
         line: &mut String,
     ) -> Result<(), AllocError> {
         line.push_str(name)?;
-        let Some(uses) = self.of.get(&object) else {
-            return Ok(());
-        };
         let mut is_first = true;
-        for found in uses.iter() {
+        for found in self.of(object).iter() {
             if is_of_side(*found, side) {
                 line.push_str(if is_first { " " } else { " and " })?;
                 put_use(text, *found, line)?;
@@ -231,6 +227,14 @@ fn is_of_side(found: Use, side: Side) -> bool {
     }
 }
 
+/// Puts words one after another.
+pub(crate) fn put_words(words: &[&str], line: &mut String) -> Result<(), AllocError> {
+    for word in words {
+        line.push_str(word)?;
+    }
+    Ok(())
+}
+
 /// Puts a use and where it is.
 fn put_use(text: &SourceText<'_>, found: Use, line: &mut String) -> Result<(), AllocError> {
     line.push_str(found.deed.words())?;
@@ -240,8 +244,8 @@ fn put_use(text: &SourceText<'_>, found: Use, line: &mut String) -> Result<(), A
     match found.place {
         Place::Address(address) => write!(line, " at {address:#x}"),
         Place::Slot { cnode, index } => {
-            let cnode = text.object_name(cnode);
-            write!(line, " by slot {index} of {cnode}")
+            write!(line, " by slot {index}")?;
+            put_words(&[" of ", text.object_name(cnode)], line)
         }
         Place::Thread => Ok(()),
     }
@@ -250,27 +254,36 @@ fn put_use(text: &SourceText<'_>, found: Use, line: &mut String) -> Result<(), A
 /// The threads by what belongs to each alone in an accepted image: the CNodes that it reaches, and its root table.
 #[derive(Drop)]
 struct Owners {
-    of: IndexMap<usize, usize>,
+    /// By the numbers of objects.
+    threads: Vec<usize>,
 }
 
 impl Owners {
-    /// What belongs to one thread more.
-    fn add(
-        &mut self,
-        cnodes: &NumberSet,
-        source: &SourceThread<'_>,
-        thread: usize,
-    ) -> Result<(), AllocError> {
-        for place in 0..cnodes.len() {
-            self.of.insert(cnodes.at(place) as usize, thread)?;
+    /// So many objects belong to nobody.
+    fn none(alloc: Global, objects: usize) -> Result<Self, AllocError> {
+        let mut threads = Vec::new(alloc);
+        threads.resize(objects, NOBODY)?;
+        Ok(Owners { threads })
+    }
+
+    /// An object belongs to a thread.
+    fn put(&mut self, object: usize, thread: usize) {
+        if let Some(owner) = self.threads.get_mut(object) {
+            *owner = thread;
         }
-        self.of.insert(source.root, thread)?;
-        Ok(())
+    }
+
+    /// What belongs to one thread more.
+    fn add(&mut self, cnodes: &NumberSet, source: &SourceThread<'_>, thread: usize) {
+        for place in 0..cnodes.len() {
+            self.put(cnodes.at(place) as usize, thread);
+        }
+        self.put(source.root, thread);
     }
 
     /// What is done by the thread to which an object belongs.
     fn uses_of<'u>(&self, object: usize, all: &'u mut Vec<Uses>) -> Option<&'u mut Uses> {
-        match self.of.get(&object) {
+        match self.threads.get(object) {
             Some(thread) => all.get_mut(*thread),
             None => None,
         }
@@ -300,10 +313,10 @@ fn begun(
     for thread in image.threads() {
         let cnodes = cnodes_of(alloc, image, &thread)?;
         if let Some(source) = text.threads.get(all.len()) {
-            owners.add(&cnodes, source, all.len())?;
+            owners.add(&cnodes, source, all.len());
         }
         all.push(Uses {
-            of: IndexMap::new(alloc),
+            all: Vec::new(alloc),
         })?;
     }
     Ok(all)
@@ -316,24 +329,23 @@ pub(crate) fn all_uses(
     text: &SourceText<'_>,
     image: &ImageRef<'_>,
 ) -> Result<Vec<Uses>, AllocError> {
-    let mut owners = Owners {
-        of: IndexMap::new(alloc),
-    };
+    let mut owners = Owners::none(alloc, text.objects.len())?;
     let mut all = begun(alloc, text, image, &mut owners)?;
     for frame in &text.frames {
         if let Some(uses) = owners.uses_of(frame.root, &mut all) {
-            uses.add_frame(alloc, frame)?;
+            uses.add_frame(frame)?;
         }
     }
     for capability in &text.capabilities {
         if let Some(uses) = owners.uses_of(capability.cnode, &mut all) {
-            uses.add_held(alloc, text, capability)?;
+            uses.add_held(text, capability)?;
         }
     }
     for (uses, thread) in all.iter_mut().zip(text.threads.iter()) {
         if let Some(buffer) = &thread.buffer {
-            uses.add(alloc, buffer.frame, Deed::Buffers, Place::Thread)?;
+            uses.add(buffer.frame, Deed::Buffers, Place::Thread)?;
         }
+        uses.all.sort_by_key(|found| found.object)?;
     }
     Ok(all)
 }
