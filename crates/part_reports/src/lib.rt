@@ -7,9 +7,11 @@ mod names;
 mod objects;
 mod reports;
 mod texts;
+mod unlisted;
 mod uses;
 
 pub use groups::Groups;
 pub use names::{NoPart, part_named};
 pub use reports::{alone_report, groups_report, part_groups, parts_report};
 pub use texts::text_alone;
+pub use unlisted::{declared_in, image_names};

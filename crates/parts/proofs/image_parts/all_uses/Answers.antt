@@ -9,7 +9,8 @@ loop-thread-preserved c =
     let image = c.args.image.now in
     let count : vec_len c.loop-thread.all ≡ length c.loop-thread.all.items = search rules in
     uses-next image image.threads c.loop-thread.thread-iterator c.next.new.self c.in-Some.thread c.in_ok-uses.uses c.loop-thread.all.items c.push.new.self.items
-    c.in-Some.ensures.steps (c.in_ok-uses.ensures.number ∙ c.len.ensures ∙ count) (c.in_ok-uses.ensures.uses (c.as_slice.ensures.value ∙ c.in_ok-frames.ensures.frames)) c.in_ok-push.ensures.items c.loop-thread.invariant
+    c.in-Some.ensures.steps (c.in_ok-uses.ensures.number ∙ c.len.ensures ∙ count)
+    (c.in_ok-uses.ensures.uses (c.as_slice.ensures.value ∙ c.in_ok-frames.ensures.frames)) c.in_ok-push.ensures.items c.loop-thread.invariant
 
 pub returns-clause-uses : goal.returns-clause-uses
 returns-clause-uses c =

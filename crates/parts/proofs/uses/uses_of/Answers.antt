@@ -1,6 +1,5 @@
 -- By what was put in: frames, capabilities, the buffer, and lines.
-use Rattle.std.proofs.Common.{ℕ, ◌∙◌, ◌||◌, List, ap}
-use Rattle.std.proofs.Common.{◌==◌, ◌&&◌}
+use Rattle.std.proofs.Common.{ℕ, ◌∙◌, ◌==◌, ◌&&◌, ◌||◌, List, ap}
 use Rattle.std.specs.List.{list_any}
 use Rattle.model.specs.Acceptance.ThreadRules.{is_member}
 use Rattle.model.specs.Capabilities.Rights.{may_write, rights}
@@ -21,7 +20,8 @@ returns-clause-uses c = λ same.
       takes_these = λ n other. ap (λ (s : List ℕ). is_member n s) c.in_ok-taken.ensures.numbers
           ∙ takes-of image t n h cnodes c.new-takes.result c.header-header.ensures c.in_ok-cnodes.ensures.found c.new-takes.ensures c.note_frames.new.takes
           c.note_capabilities.new.takes c.note_buffer.new.takes (c.in_ok-note_frames.ensures.takes n
-          ∙ ap (λ (l : List FrameEntry). is_member n c.new-takes.result || list_any (λ f. f.root == h.root && f.frame == n) l) same) (c.in_ok-note_capabilities.ensures.takes n)
+          ∙ ap (λ (l : List FrameEntry). is_member n c.new-takes.result || list_any (λ f. f.root == h.root && f.frame == n) l) same)
+          (c.in_ok-note_capabilities.ensures.takes n)
           (c.in_ok-note_buffer.ensures.takes n ∙ ap (λ b. is_member n c.note_capabilities.new.takes || b) (noted h.buffer n other));
       changes_these = λ n other. ap (λ (s : List ℕ). is_member n s) c.in_ok-changed.ensures.numbers
           ∙ changes-of image t n h cnodes c.new-changes.result c.header-header.ensures c.in_ok-cnodes.ensures.found c.new-changes.ensures

@@ -13,7 +13,8 @@ pub returns-in-Some-clause-there : goal.returns-in-Some-clause-there
 returns-in-Some-clause-there c =
     let all = c.self.inside.uses.items in
     is-there c.self.inside.accepted.now all c.args.thread c.self.invariant (Some c.in-Some.uses.now)
-    (ap (option_map (λ (u : Bor Uses). u.now)) (sym c.in-Some.is) ∙ c.uses_at.ensures ∙ ap (λ (l : List Uses). slice_get l c.args.thread) c.as_slice.ensures.value)
+    (ap (option_map (λ (u : Bor Uses). u.now)) (sym c.in-Some.is) ∙ c.uses_at.ensures
+    ∙ ap (λ (l : List Uses). slice_get l c.args.thread) c.as_slice.ensures.value)
     ∙ ap (λ (i : Image). nat_lt c.args.thread (length i.threads)) c.self.view_is
 
 pub returns-in-Some-clause-numbers : goal.returns-in-Some-clause-numbers
@@ -24,11 +25,13 @@ returns-in-Some-clause-numbers c =
     head.ensures.small.objects in
     subst (λ (i : Image). TakesThese i c.args.thread c.numbers.result.now) c.self.view_is
     (takes-at image c.self.inside.uses.items c.args.thread c.self.invariant c.in-Some.uses.now c.numbers.result.now few
-    (sym (ap (option_map (λ (u : Bor Uses). u.now)) (sym c.in-Some.is) ∙ c.uses_at.ensures ∙ ap (λ (l : List Uses). slice_get l c.args.thread) c.as_slice.ensures.value)) c.numbers.ensures)
+    (sym (ap (option_map (λ (u : Bor Uses). u.now)) (sym c.in-Some.is) ∙ c.uses_at.ensures
+    ∙ ap (λ (l : List Uses). slice_get l c.args.thread) c.as_slice.ensures.value)) c.numbers.ensures)
 
 pub returns-in-None-clause-there : goal.returns-in-None-clause-there
 returns-in-None-clause-there c =
     let all = c.self.inside.uses.items in
     is-there c.self.inside.accepted.now all c.args.thread c.self.invariant None
-    (ap (option_map (λ (u : Bor Uses). u.now)) (sym c.in-None.is) ∙ c.uses_at.ensures ∙ ap (λ (l : List Uses). slice_get l c.args.thread) c.as_slice.ensures.value)
+    (ap (option_map (λ (u : Bor Uses). u.now)) (sym c.in-None.is) ∙ c.uses_at.ensures
+    ∙ ap (λ (l : List Uses). slice_get l c.args.thread) c.as_slice.ensures.value)
     ∙ ap (λ (i : Image). nat_lt c.args.thread (length i.threads)) c.self.view_is
