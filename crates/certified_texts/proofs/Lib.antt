@@ -1,0 +1,5 @@
+mod Comments
+mod FirstLines
+mod SameLines
+mod Splitting
+mod WholeWords
