@@ -1,11 +1,12 @@
 //! Texts and their certificates: what is found is put into the text, and the verifier judges the image of that.
 
 ghost use Rattle.std.specs.Prelude.{IfOk};
+ghost use Rattle.certified_texts.specs.SameTexts.{SameButCertificates};
 ghost use Rattle.tool.specs.AcceptedTexts.{IsAcceptedText};
 
 use crate::trials::{drop_records, judged};
 use asm::{SourceFault, assemble};
-use certified_texts::{Draft, Layout, bare_text, layout_of};
+use certified_texts::{Draft, Layout, bare_text, is_same_but_certificates, layout_of};
 use certifying::{Certificate, Effort, Reason, Unfit, certificates};
 use explaining::point_of;
 use image::write;
@@ -210,6 +211,24 @@ fn searched<P: Progress>(
     Err(searched_in_vain(first.unwrap_or(NotCertified::Disagreement)))
 }
 
+/// The text with these certificates, if the verifier accepts it. It is looked at whether all else is as it was given.
+fn finished(
+    alloc: Global,
+    text: &str,
+    layout: &Layout<'_>,
+    drafts: &[Draft],
+) -> Result<Vec<u8>, NotCertified>
+    ensures accepted { IfOk result (λ written. IsAcceptedText written.items) }
+    ensures from { IfOk result (λ written. SameButCertificates text.now written.items) }
+{
+    let written = judged(alloc, text, layout, drafts)?;
+    if is_same_but_certificates(text.as_bytes(), written.as_slice()) {
+        Ok(written)
+    } else {
+        Err(NotCertified::Disagreement)
+    }
+}
+
 /// The text with these certificates, from which the records go that it does not need.
 fn shortest<P: Progress>(
     alloc: Global,
@@ -219,10 +238,11 @@ fn shortest<P: Progress>(
     progress: &mut P,
 ) -> Result<CertifiedText, NotCertified>
     ensures accepted { IfOk result (λ made. IsAcceptedText made.text.items) }
+    ensures from { IfOk result (λ made. SameButCertificates text.now made.text.items) }
 {
     drop_records(alloc, text, layout, &mut drafts, progress)?;
     Ok(CertifiedText {
-        text: judged(alloc, text, layout, drafts.as_slice())?,
+        text: finished(alloc, text, layout, drafts.as_slice())?,
         budgets: budgets_of(alloc, layout, drafts.as_slice())?,
     })
 }
@@ -240,6 +260,8 @@ pub fn certified<P: Progress>(
 ) -> Result<CertifiedText, NotCertified>
     // What is answered assembles to an image, and the verifier accepts its bytes.
     ensures accepted { IfOk result (λ made. IsAcceptedText made.text.items) }
+    // It is the text that is given, but for its certificates.
+    ensures from { IfOk result (λ made. SameButCertificates text.now made.text.items) }
 {
     let bytes = bare_text(alloc, text)?;
     let Ok(bare) = std::str::from_utf8(bytes.as_slice()) else {

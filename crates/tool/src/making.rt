@@ -1,7 +1,7 @@
 //! Images of the texts of systems, with the certificates that are found.
 
 ghost use Rattle.std.specs.Prelude.{IfOk, OnOk};
-ghost use Rattle.tool.specs.AcceptedTexts.{IsAcceptedImage};
+ghost use Rattle.tool.specs.AcceptedTexts.{IsAcceptedImage, IsImageOf, IsMadeOf};
 
 use crate::certification::{CertifiedText, NotCertified, certified};
 use asm::assemble;
@@ -37,6 +37,7 @@ fn judge(alloc: Global, bytes: &[u8]) -> Result<(), NotCertified>
 /// It is no text, its image is refused, or memory is.
 pub(crate) fn image_of_text(alloc: Global, text: &str) -> Result<Vec<u8>, NotCertified>
     ensures accepted { IfOk result (λ bytes. IsAcceptedImage bytes.items) }
+    ensures from { IfOk result (λ bytes. IsImageOf text.now bytes.items) }
 {
     let image = assemble(alloc, text)?;
     let bytes = write(alloc, &image)?;
@@ -57,6 +58,7 @@ pub(crate) fn image_as_written(alloc: Global, text: &str) -> Result<Vec<u8>, Not
 /// The image of the bytes of a text, if they are a text and the verifier accepts it.
 fn image_of(alloc: Global, text: &[u8]) -> Result<Vec<u8>, NotCertified>
     ensures accepted { IfOk result (λ bytes. IsAcceptedImage bytes.items) }
+    ensures from { IfOk result (λ bytes. IsImageOf text.now bytes.items) }
 {
     match std::str::from_utf8(text) {
         Ok(text) => image_of_text(alloc, text),
@@ -77,6 +79,8 @@ pub fn made<P: Progress>(
 ) -> Result<MadeImage, NotCertified>
     // The verifier accepts the bytes that are answered.
     ensures accepted { IfOk result (λ made. IsAcceptedImage made.image.items) }
+    // They are the image of the text that is given, but for its certificates.
+    ensures from { IfOk result (λ made. IsMadeOf text.now made.image.items) }
 {
     let CertifiedText { text, budgets } = certified(alloc, text, progress)?;
     Ok(MadeImage {
