@@ -30,8 +30,8 @@ ROWS = [
     ("below", ["1 1 20"], 100, 16, 16),
     ("word", ["1 1 200"], 100, None, 43),
     ("pending", ["1 1 120", "5 1 240"], 100, 88, 87),
-    # Its client may wait for an answer for ever: at rest a word and the line are 22 each, 13 the client, and 22 come.
-    ("deaf", ["1 1 200"], 100, 79, 12),
+    # Its client may wait for an answer for ever, but not to send: at rest a word and the line are 22 each, 9 the client, and 22 come.
+    ("deaf", ["1 1 200"], 100, 75, 12),
     ("self", [], 100, "no bound", None),
     ("many", ["1 1 200"], 110, "no bound", None),
 ]
