@@ -131,7 +131,7 @@ impl<'t> Report<'_, 't> {
                 let name = self.thread(thread);
                 write!(&mut self.to, "what {name} may wait with")
             }
-            Reason::RungBelow => self.to.push_str("what parts below may have left"),
+            Reason::FromBelow => self.to.push_str("what parts below may have left"),
             Reason::Comes { line, times } => {
                 write!(&mut self.to, "line {line}, ")?;
                 self.push_times(times)

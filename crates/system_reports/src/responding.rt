@@ -87,7 +87,7 @@ impl<'a> Wording<'_, 'a> {
                 let name = self.thread(thread);
                 format!(in self.alloc; "what {name} may wait with")
             }
-            Reason::RungBelow => String::from_str(
+            Reason::FromBelow => String::from_str(
                 self.alloc,
                 "what one step of a part below sets going",
             ),
