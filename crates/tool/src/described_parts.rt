@@ -3,11 +3,14 @@
 use crate::certificate_files::{certified_text, uncertified};
 use crate::making::image_of_text;
 use crate::reports::ToolFault;
-use crate::sources::{SystemText, read_system};
+use crate::sources::{LIST, SystemText, Unlisted, read_system, read_unlisted};
 use console::{STANDARD, text_of, write_file};
 use explaining::wants_certificates;
 use model::Refusal;
-use part_reports::{NoPart, alone_report, groups_report, part_named, parts_report, text_alone};
+use part_reports::{
+    NoPart, alone_report, declared_in, groups_report, image_names, part_named, parts_report,
+    text_alone,
+};
 use parts::{NotAlone, Parts, parts_of};
 use sinks::{Sink, put_all};
 use source_texts::{SourceText, TextFault, read, with_budgets};
@@ -96,22 +99,57 @@ fn declared<'t, 'a>(
     file: &'a str,
     text: &'t str,
 ) -> Result<SourceText<'t>, ToolFault<'a>> {
-    match read(alloc, text) {
+    declared_as(file, read(alloc, text))
+}
+
+/// What was declared in a file.
+fn declared_as<'t, 'a>(
+    file: &'a str,
+    found: Result<SourceText<'t>, TextFault>,
+) -> Result<SourceText<'t>, ToolFault<'a>> {
+    match found {
         Ok(source) => Ok(source),
         Err(TextFault::Line(line)) => Err(ToolFault::Unread { file, line }),
         Err(TextFault::OutOfMemory) => Err(ToolFault::Memory),
     }
 }
 
-/// Puts which parts of a system may change what others take, and which groups of them take nothing from the others.
+/// Puts which parts of a system may change what others take, and which groups of them take nothing from the others. An image is not listed
+/// for that: its names are its numbers.
 pub(crate) fn put_parts<'a, R: Files + Input + Clock + AllocGlobal, W: Sink, E: Sink>(
     rt: &R,
     source: &'a str,
     output: &mut W,
     errors: &mut E,
 ) -> Result<(), ToolFault<'a>> {
-    let system = read_system(rt, source)?;
-    let Whole { text, image } = whole_of(rt, &system, errors)?;
+    match read_unlisted(rt, source, &[])? {
+        Unlisted::Image(image) => put_parts_of_image(rt.alloc(), image.as_slice(), output),
+        Unlisted::Text(system) => put_parts_of_text(rt, &system, output, errors),
+    }
+}
+
+/// Puts the same of an image.
+fn put_parts_of_image<'a, W: Sink>(
+    alloc: Global,
+    image: &[u8],
+    output: &mut W,
+) -> Result<(), ToolFault<'a>> {
+    let accepted = accepted(alloc, image)?;
+    let parts = parts_in(alloc, &accepted)?;
+    let listed = image_names(alloc, accepted.image())?;
+    let names = declared_as(LIST, declared_in(alloc, accepted.image(), listed.as_str()))?;
+    let lines = parts_report(alloc, &names, accepted.image(), &parts)?;
+    Ok(put_all(output, lines.as_bytes())?)
+}
+
+/// Puts the same of a text.
+fn put_parts_of_text<'a, R: Clock + AllocGlobal, W: Sink, E: Sink>(
+    rt: &R,
+    system: &SystemText<'a>,
+    output: &mut W,
+    errors: &mut E,
+) -> Result<(), ToolFault<'a>> {
+    let Whole { text, image } = whole_of(rt, system, errors)?;
     let accepted = accepted(rt.alloc(), image.as_slice())?;
     let parts = parts_in(rt.alloc(), &accepted)?;
     let names = declared(rt.alloc(), system.name, text.as_str())?;

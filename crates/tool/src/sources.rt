@@ -19,7 +19,7 @@ const DESCRIPTION: &str = ".sys";
 const TEXT: &str = "text";
 
 /// The name by which the text of an image is reported.
-const LIST: &str = "list";
+pub(crate) const LIST: &str = "list";
 
 /// A system as a text.
 #[derive(Drop)]
@@ -207,14 +207,40 @@ pub(crate) fn read_given<'a, R: Files + Input + AllocGlobal>(
     name: &'a str,
     given: &[&str],
 ) -> Result<SystemText<'a>, ToolFault<'a>> {
+    match read_unlisted(rt, name, given)? {
+        Unlisted::Image(image) => {
+            let mut system = listed(rt.alloc(), image.as_slice())?;
+            system.file = name;
+            system.image = Some(image);
+            Ok(system)
+        }
+        Unlisted::Text(system) => Ok(system),
+    }
+}
+
+/// What is in the file of a system.
+#[derive(Drop)]
+pub(crate) enum Unlisted<'a> {
+    /// Bytes that begin as an image.
+    Image(Vec<u8>),
+    /// A text, or that of a description.
+    Text(SystemText<'a>),
+}
+
+/// The same without a text of an image.
+///
+/// # Errors
+///
+/// Those of [`read_given`] but for an image that is refused.
+pub(crate) fn read_unlisted<'a, R: Files + Input + AllocGlobal>(
+    rt: &R,
+    name: &'a str,
+    given: &[&str],
+) -> Result<Unlisted<'a>, ToolFault<'a>> {
     let bytes = read_all(rt, name)?;
     if bytes.as_slice().starts_with(MAGIC) {
-        let mut system = listed(rt.alloc(), bytes.as_slice())?;
-        system.file = name;
-        system.image = Some(bytes);
-        Ok(system)
-    } else {
-        let content = text_of(rt.alloc(), bytes, name)?;
-        written(rt, name, content, given)
+        return Ok(Unlisted::Image(bytes));
     }
+    let content = text_of(rt.alloc(), bytes, name)?;
+    Ok(Unlisted::Text(written(rt, name, content, given)?))
 }
