@@ -113,8 +113,7 @@ fn last_halt_between(
     first: usize,
     limit: usize,
 ) -> Result<Option<usize>, AllocError>
-    requires { first ≤ limit }
-    ensures { IfOk result (λ found. IsLast stops.now turn run.now first found limit) }
+    ensures { IfOk result (λ found. first ≤ limit → IsLast stops.now turn run.now first found limit) }
 {
     let mut system = run.at_start()?;
     replay(&mut system, run.events(), first);
