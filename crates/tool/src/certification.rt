@@ -183,7 +183,20 @@ fn first_fault(first: Option<NotCertified>, last: NotCertified) -> NotCertified 
     }
 }
 
-/// What is found for a text without certificates, if the verifier accepts it. Where it refuses that, more is noted.
+/// Whether the verifier refuses certificates for a page that is not mapped. Records at all points, with the same ranges and slots,
+/// leave it as it is.
+fn is_not_mapped(fault: &NotCertified) -> bool {
+    matches!(
+        fault,
+        NotCertified::Line {
+            why: Why::Refused(Refusal::NotMapped(_)),
+            ..
+        }
+    )
+}
+
+/// What is found for a text without certificates, if the verifier accepts it. Where it refuses that, more is noted, as long as that
+/// can help.
 fn searched<P: Progress>(
     alloc: Global,
     text: &str,
@@ -202,8 +215,12 @@ fn searched<P: Progress>(
             Ok(_) => return Ok(drafts),
             Err(NotCertified::OutOfMemory) => return Err(NotCertified::OutOfMemory),
             Err(fault) => {
+                let is_last = effort == Effort::AllRanges && is_not_mapped(&fault);
                 if first.is_none() {
                     first = Some(fault);
+                }
+                if is_last {
+                    break;
                 }
             }
         }
