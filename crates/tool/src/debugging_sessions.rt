@@ -84,6 +84,25 @@ fn not_started<'a>(fault: BootFault) -> ToolFault<'a> {
     }
 }
 
+/// Serves a debugger over a scene, from the moment after these events on.
+fn serve_scene<'a, R: Files + Input + AllocGlobal, W: Sink>(
+    rt: &R,
+    scene: Scene<'_, '_, '_, '_>,
+    events: Vec<Event>,
+    output: &mut W,
+) -> Result<(), ToolFault<'a>> {
+    let mut debugger = match Debugger::start(rt.alloc(), scene, events) {
+        Ok(debugger) => debugger,
+        Err(fault) => return Err(not_started(fault)),
+    };
+    match serve(rt, &mut debugger, rt.reader(), output) {
+        Ok(()) => Ok(()),
+        Err(ServeFault::Input) => Err(ToolFault::Input),
+        Err(ServeFault::Output) => Err(ToolFault::Output),
+        Err(ServeFault::OutOfMemory) => Err(ToolFault::Memory),
+    }
+}
+
 /// Debugs an image that was read.
 fn debug<'a, R: Files + Input + AllocGlobal, W: Sink>(
     rt: &R,
@@ -104,16 +123,7 @@ fn debug<'a, R: Files + Input + AllocGlobal, W: Sink>(
         only: part_of(rt, parts.as_slice(), session.part)?,
         ends: session.events.is_some(),
     };
-    let mut debugger = match Debugger::start(rt.alloc(), scene, events) {
-        Ok(debugger) => debugger,
-        Err(fault) => return Err(not_started(fault)),
-    };
-    match serve(rt, &mut debugger, rt.reader(), output) {
-        Ok(()) => Ok(()),
-        Err(ServeFault::Input) => Err(ToolFault::Input),
-        Err(ServeFault::Output) => Err(ToolFault::Output),
-        Err(ServeFault::OutOfMemory) => Err(ToolFault::Memory),
-    }
+    serve_scene(rt, scene, events, output)
 }
 
 /// What is said of an image that is not verified.
