@@ -10,7 +10,8 @@ use Rattle.model.specs.declared.capabilities.Cap.TheVariants.{Frame, PageTable}
 use Rattle.model.specs.declared.slot_entries.Entry.{Entry}
 use Rattle.model.proofs.SlotChanges.{capability_of}
 use Rattle.removal_laws.specs.Steps.{is_under, uprooted, without_root}
-use Rattle.vspace.specs.Endings.{Ended, GoesWith, IsMappedIn, unmapped_entry}
+use Rattle.vspace.specs.Endings.{Ended, GoesWith, IsMappedIn}
+use Rattle.vspace.specs.Regions.{unmapped_entry}
 
 uprooted-gone : (offset : ℕ) (held : Option Entry) → is_under offset (capability_of held) ≡ true →
     option_map (uprooted offset) held ≡ option_map unmapped_entry held

@@ -1,55 +1,30 @@
 -- Page tables that go with a table are unmapped one after another: what each step leaves, and that all of them go.
-use Rattle.std.proofs.Common.{◌≡◌, ◌≢◌, ◌∙◌, ℕ, ◌==◌, ◌||◌, ◌+◌, ◌<◌, ◌^◌, ◌⊎◌, inl, inr, Bool, true, false, not, Option, Some, None, List, refl, sym, ap}
+use Rattle.std.proofs.Common.{◌≡◌, ◌≢◌, ◌∙◌, ℕ, ◌==◌, ◌||◌, ◌+◌, ◌/◌, ◌<◌, ◌^◌, ◌⊎◌, inl, inr, Bool, true, false, Option, Some, None, List, refl, sym, ap}
 use Rattle.std.proofs.Common.{subst, arith}
 use Rattle.std.specs.Prelude.{if◌then◌else◌}
-use Rattle.std.specs.Option.{option_map, option_map_or}
+use Rattle.std.specs.Option.{option_map}
 use Rattle.std.proofs.lemmas.Bool.{eq-eqb}
 use Rattle.std.proofs.lemmas.Bool.Decides.{eqb_tells}
-use Rattle.model.specs.Capabilities.CapabilityKinds.{object_of, unmapped}
+use Rattle.model.specs.Capabilities.CapabilityKinds.{unmapped}
 use Rattle.model.specs.Capabilities.CapabilityWords.{IsCapability, IsPlace}
 use Rattle.model.specs.Capabilities.Slots.{Slots, capability_at, parent_at, recapped}
-use Rattle.model.specs.Kernel.MappingCalls.{lies_in_region, without_table}
 use Rattle.model.specs.declared.capabilities.Cap.{Cap}
 use Rattle.model.specs.declared.capabilities.Cap.TheVariants.{Empty, Untyped, Endpoint, Notification, CNode, Frame, PageTable, Tcb, RootTable, InterruptControl}
 use Rattle.model.specs.declared.capabilities.Cap.TheVariants.{InterruptHandler}
 use Rattle.model.specs.declared.capabilities.TableMapping.{TableMapping}
 use Rattle.model.specs.declared.slot_entries.Entry.{Entry}
-use Rattle.model.proofs.SlotChanges.{capability_of, entry-other, entry-same}
-use Rattle.removal_laws.specs.Steps.{slots_unmapped}
-use Rattle.slots.specs.Listed.{is_naming}
-use Rattle.vspace.specs.Endings.{Ended, Ending, HasEnded, IsMappedIn, begins, ended_at, goes_on, is_ending, unmapped_entry}
+use Rattle.model.proofs.SlotChanges.{capability_of, entry-other, entry-same, parent_of}
+use Rattle.vspace.specs.Endings.{Ended, Ending, GoesWith, HasEnded, IsMappedIn, extent_of, is_ending}
+use Rattle.vspace.specs.Regions.{IsPartlyCleared, goes_along, unmapped_entry}
 use Rattle.vspace.specs.Tables.{MapsTable, TablesAgree, table_in}
-use Rattle.vspace.proofs.EndedTables.{EndedBefore, GoesBefore, OneMore, ended-all, ended-next, ending-cases, entry-unmapped, not_table, table-entry}
-use Rattle.vspace.proofs.EndedTables.{without-inside, without-outside}
+use Rattle.vspace.specs.declared.extents.Extent.TheVariants as extents
+use Rattle.vspace.proofs.EndedTables.{entry-unmapped, mapped-more, stands-mapped, table-entry}
 use Rattle.vspace.proofs.Entries.{table_in-some}
-use Rattle.vspace.proofs.Sweeps.{object-unmapped}
-
--- some slots have lost their mapping, and nothing else has changed
-abbrev pub IsLess : Slots → Slots → Type 0
-IsLess old now = (y : ℕ) → (now y ≡ option_map unmapped_entry (old y)) ⊎ (now y ≡ old y)
-
--- a slot holds nothing that goes
-abbrev is_done : ℕ → Slots → ℕ → Bool
-is_done offset now y = not (is_ending offset (capability_at now y))
+use Rattle.vspace.proofs.LostMappings.{IsLess, entry-twice, less-maps, less-table}
+use Rattle.vspace.proofs.Sweeps.{along-root, partly-untouched}
+use Rattle.vspace.proofs.Unmapping.{table-one}
 
 -- ---- capabilities
-
-unmapped-twice : (c : Cap) → unmapped (unmapped c) ≡ unmapped c
-unmapped-twice Empty = refl
-unmapped-twice (Untyped _ _ _) = refl
-unmapped-twice (Endpoint _ _ _) = refl
-unmapped-twice (Notification _ _ _) = refl
-unmapped-twice (CNode _ _ _) = refl
-unmapped-twice (Frame _ _ _) = refl
-unmapped-twice (PageTable _ _) = refl
-unmapped-twice (Tcb _) = refl
-unmapped-twice (RootTable _) = refl
-unmapped-twice InterruptControl = refl
-unmapped-twice (InterruptHandler _) = refl
-
-entry-twice : (held : Option Entry) → option_map unmapped_entry (option_map unmapped_entry held) ≡ option_map unmapped_entry held
-entry-twice None = refl
-entry-twice (Some held) = ap (λ (c : Cap). Some (record { capability = c; parent = held.parent })) (unmapped-twice held.capability)
 
 ending-unmapped : (offset : ℕ) (c : Cap) → is_ending offset (unmapped c) ≡ false
 ending-unmapped offset Empty = refl
@@ -64,30 +39,6 @@ ending-unmapped offset (RootTable _) = refl
 ending-unmapped offset InterruptControl = refl
 ending-unmapped offset (InterruptHandler _) = refl
 
--- what lies in a region is no page table
-inside-stays : (offset : ℕ) (m : TableMapping) (c : Cap) → lies_in_region m c ≡ true → is_ending offset c ≡ false
-inside-stays offset m (PageTable t o) inside = absurd (let clash : false ≡ true = inside in cc)
-inside-stays offset m Empty inside = refl
-inside-stays offset m (Untyped _ _ _) inside = refl
-inside-stays offset m (Endpoint _ _ _) inside = refl
-inside-stays offset m (Notification _ _ _) inside = refl
-inside-stays offset m (CNode _ _ _) inside = refl
-inside-stays offset m (Frame _ _ _) inside = refl
-inside-stays offset m (Tcb _) inside = refl
-inside-stays offset m (RootTable _) inside = refl
-inside-stays offset m InterruptControl inside = refl
-inside-stays offset m (InterruptHandler _) inside = refl
-
-ending-without : (offset : ℕ) (m : TableMapping) (held : Option Entry) →
-    is_ending offset (capability_of (option_map (without_table m) held)) ≡ is_ending offset (capability_of held)
-ending-without offset m None = refl
-ending-without offset m (Some held) =
-    elim (lies_in_region m held.capability) as (λ b. lies_in_region m held.capability ≡ b →
-    is_ending offset (if b then unmapped held.capability else held.capability) ≡ is_ending offset held.capability) [
-      | true ↦ λ inside. ending-unmapped offset held.capability ∙ sym (inside-stays offset m held.capability inside)
-      | false ↦ λ _. refl
-    ] refl
-
 goes-ending : (offset t : ℕ) (m : TableMapping) → (m.root ≡ offset) ⊎ (t ≡ offset) → is_ending offset (PageTable t (Some m)) ≡ true
 goes-ending offset t m (inl root) = rw (eq-eqb m.root offset root) refl
 goes-ending offset t m (inr here) = elim (m.root == offset) as (λ b. (b || t == offset) ≡ true) [
@@ -95,25 +46,7 @@ goes-ending offset t m (inr here) = elim (m.root == offset) as (λ b. (b || t ==
   | false ↦ eq-eqb t offset here
 ]
 
--- nothing is mapped in no region
-mapped-nowhere : (goes : ℕ → ℕ → Type 0) → ((root region : ℕ) → goes root region → ⊥) → (c : Cap) → IsMappedIn goes c → ⊥
-mapped-nowhere goes none (Frame f r (Some m)) is = none _ _ is
-mapped-nowhere goes none (PageTable t (Some m)) is = none _ _ is
-mapped-nowhere goes none _ is = is
-
 -- ---- slots that have lost mappings
-
-less-then : (old now next : Slots) → IsLess old now → IsLess now next → IsLess old next
-less-then old now next before after y = elim (after y) [
-  | inr same ↦ elim (before y) [
-    | inl less ↦ inl (same ∙ less)
-    | inr kept ↦ inr (same ∙ kept)
-  ]
-  | inl gone ↦ elim (before y) [
-    | inl less ↦ inl (gone ∙ ap (option_map unmapped_entry) less ∙ entry-twice (old y))
-    | inr kept ↦ inl (gone ∙ ap (option_map unmapped_entry) kept)
-  ]
-]
 
 module _ (old now : Slots) (less : IsLess old now) where
   pub less-ending : (offset y : ℕ) → is_ending offset (capability_at old y) ≡ false → is_ending offset (capability_at now y) ≡ false
@@ -123,159 +56,140 @@ module _ (old now : Slots) (less : IsLess old now) where
     | inr same ↦ ap (λ (held : Option Entry). is_ending offset (capability_of held)) same ∙ stays
   ]
 
-  pub less-names : (object y : ℕ) → is_naming now object y ≡ is_naming old object y
-  less-names object y = ap (λ (o : Option ℕ). option_map_or (λ (named : ℕ). named == object) o false) (elim (less y) [
-    | inl gone ↦ ap (λ (held : Option Entry). object_of (capability_of held)) gone ∙ ap object_of (entry-unmapped (old y))
-        ∙ object-unmapped (capability_at old y)
-    | inr same ↦ ap (λ (held : Option Entry). object_of (capability_of held)) same
-  ])
-
-  -- a page table that is mapped was mapped there before
-  less-table : (y t : ℕ) (m : TableMapping) → capability_at now y ≡ PageTable t (Some m) → capability_at old y ≡ PageTable t (Some m)
-  less-table y t m held = elim (less y) [
-    | inl gone ↦ absurd (not_table (now y) (old y) t m gone held)
-    | inr same ↦ sym (ap capability_of same) ∙ held
-  ]
-
-  pub less-maps : (root region t : ℕ) → MapsTable now root region t → MapsTable old root region t
-  less-maps root region t maps = record { slot = maps.slot; held = less-table maps.slot t _ maps.held }
-
   pub less-ended : (t offset : ℕ) → HasEnded old t offset → HasEnded now t offset
-  less-ended t offset ended = λ y m held. ended y m (less-table y t m held)
+  less-ended t offset ended = λ y m held. ended y m (less-table old now less y t m held)
 
   pub less-regions : (root number : ℕ) → ((region : ℕ) → region < number → (t : ℕ) → MapsTable old root region t → ⊥) →
       ((t : ℕ) → MapsTable now root number t → ⊥)
       → (region : ℕ) → region < number + 1 → (t : ℕ) → MapsTable now root region t → ⊥
   less-regions root number before here region few t maps = elim (eqb_tells region number) [
     | inl same ↦ here t (subst (λ (n : ℕ). MapsTable now root n t) same.1 maps)
-    | inr other ↦ before region (omega (arith, few, other.1)) t (less-maps root region t maps)
+    | inr other ↦ before region (omega (arith, few, other.1)) t (less-maps old now less root region t maps)
   ]
 
--- ---- one step
-
-module _ (now next : Slots) (slot offset : ℕ) (step : next ≡ ended_at now slot offset) where
-  step-none : is_ending offset (capability_at now slot) ≡ false → (y : ℕ) → next y ≡ now y
-  step-none none y = ap (λ (s : Slots). s y) step ∙ ap (λ (b : Bool). (if b then slots_unmapped now slot (capability_at now slot) else now) y) none
-
-  module _ (t : ℕ) (m : TableMapping) (held : capability_at now slot ≡ PageTable t (Some m)) (goes : is_ending offset (capability_at now slot) ≡ true) where
-    step-going : (y : ℕ) → next y ≡ option_map (without_table m) (recapped now slot (PageTable t None) y)
-    step-going y =
-        ap (λ (s : Slots). s y) step
-        ∙ ap (λ (b : Bool). (if b then slots_unmapped now slot (capability_at now slot) else now) y) goes
-        ∙ ap (λ (c : Cap). slots_unmapped now slot c y) held
-
-    own-gone : next slot ≡ option_map unmapped_entry (now slot)
-    own-gone =
-        step-going slot
-        ∙ ap (option_map (without_table m)) (entry-same now slot (Some (record { capability = PageTable t None; parent = parent_at now slot })))
-        ∙ sym (table-entry (now slot) t (Some m) held)
-
-    other-gone : (y : ℕ) → y ≢ slot → next y ≡ option_map (without_table m) (now y)
-    other-gone y other = step-going y ∙ ap (option_map (without_table m))
-        (entry-other now slot (Some (record { capability = PageTable t None; parent = parent_at now slot })) y other)
-
-    less-gone : IsLess now next
-    less-gone y = elim (eqb_tells y slot) [
-      | inl same ↦ inl (subst (λ (n : ℕ). next n ≡ option_map unmapped_entry (now n)) (sym same.1) own-gone)
-      | inr other ↦ elim (lies_in_region m (capability_at now y))
-          as (λ b. lies_in_region m (capability_at now y) ≡ b → (next y ≡ option_map unmapped_entry (now y)) ⊎ (next y ≡ now y)) [
-            | true ↦ λ inside. inl (other-gone y other.1 ∙ without-inside m (now y) inside)
-            | false ↦ λ outside. inr (other-gone y other.1 ∙ without-outside m (now y) outside)
-          ] refl
-    ]
-
-  pub step-less : IsLess now next
-  step-less y = elim (ending-cases offset (capability_at now slot)) [
-    | inl going ↦ less-gone going.1.0 going.1.1 going.1.2 going.0 y
-    | inr none ↦ inr (step-none none.0 y)
-  ]
-
-  -- the slot that was looked at holds nothing that goes, and whether others do stays
-  pub step-ended : is_ending offset (capability_at next slot) ≡ false
-  step-ended = elim (ending-cases offset (capability_at now slot)) [
-    | inl going ↦
-        ap (λ (held : Option Entry). is_ending offset (capability_of held)) (own-gone going.1.0 going.1.1 going.1.2 going.0)
-        ∙ ap (is_ending offset) (entry-unmapped (now slot)) ∙ ending-unmapped offset (capability_at now slot)
-    | inr none ↦ ap (λ (held : Option Entry). is_ending offset (capability_of held)) (step-none none.0 slot) ∙ none.0
-  ]
-
-  step-others : (y : ℕ) → y ≢ slot → is_ending offset (capability_at next y) ≡ is_ending offset (capability_at now y)
-  step-others y other = elim (ending-cases offset (capability_at now slot)) [
-    | inl going ↦
-        ap (λ (held : Option Entry). is_ending offset (capability_of held)) (other-gone going.1.0 going.1.1 going.1.2 going.0 y other)
-        ∙ ending-without offset going.1.1 (now y)
-    | inr none ↦ ap (λ (held : Option Entry). is_ending offset (capability_of held)) (step-none none.0 y)
-  ]
-
-  -- one slot more holds nothing that goes
-  step-more : is_ending offset (capability_at now slot) ≡ true → OneMore (is_done offset now) (is_done offset next) slot
-  step-more goes = record {
-    fresh = ap not goes;
-    here = ap not step-ended;
-    kept = λ y done. elim (is_ending offset (capability_at now y)) as (λ b. is_ending offset (capability_at now y) ≡ b → is_done offset next y ≡ true) [
-      | true ↦ λ is. absurd (let clash : false ≡ true = sym (ap not is) ∙ done in cc)
-      | false ↦ λ is. ap not (less-ending now next step-less offset y is)
-    ] refl;
-    others = λ y other done. sym (ap not (step-others y other)) ∙ done;
-  }
-
--- ---- one after another
-
-pub ending-then : (offset : ℕ) (old now next : Slots) → Ending offset old now → Ending offset now next → Ending offset old next
-ending-then offset old now next first (begins _ same) = subst (λ (s : Slots). Ending offset old s) (sym same) first
-ending-then offset old now next first (goes_on before _ slot ends step) = goes_on before next slot (ending-then offset old now before first ends) step
+-- ---- mappings that go
 
 pub ending-less : (offset : ℕ) (old now : Slots) → Ending offset old now → IsLess old now
-ending-less offset old now (begins _ same) = λ y. inr (ap (λ (s : Slots). s y) same)
-ending-less offset old now (goes_on before _ slot ends step) =
-    less-then old before now (ending-less offset old before ends) (step-less before now slot offset step)
+ending-less offset old now ends y = elim (ends y) [ inl lost ↦ inl lost.1 | inr kept ↦ inr kept ]
 
-module _ (old : Slots) (memory : List ℕ) (agree : TablesAgree old memory) (offset : ℕ) where
-  ended-first : EndedBefore old old offset (is_done offset old)
-  ended-first = λ y. inr (
-    mapped-nowhere (GoesBefore old offset (is_done offset old)) (λ root region before.
-        let goes = ap (is_ending offset) before.held ∙ goes-ending offset before.table (record { root = root; region = region }) before.goes in
-        let clash : false ≡ true = sym (ap not goes) ∙ before.looked in
-        absurd cc) (capability_at old y),
-    refl,
-  )
+module _ (offset : ℕ) (old now next : Slots) (before : Ending offset old now) (after : Ending offset now next) where
+  -- what goes now went before
+  goes-before : (root region : ℕ) → GoesWith now offset root region → GoesWith old offset root region
+  goes-before root region goes = elim goes [
+    | inl under ↦ inl under
+    | inr maps ↦ inr (less-maps old now (ending-less offset old now before) root region offset maps)
+  ]
 
-  ending-before : (now : Slots) → Ending offset old now → EndedBefore old now offset (is_done offset now)
-  ending-before now (begins _ same) = subst (λ (s : Slots). EndedBefore old s offset (is_done offset s)) (sym same) ended-first
-  ending-before now (goes_on before _ slot ends step) =
-      let earlier = ending-before before ends in
-      elim (is_ending offset (capability_at before slot)) as (λ b. is_ending offset (capability_at before slot) ≡ b →
-      EndedBefore old now offset (is_done offset now)) [
-        | true ↦ λ goes. ended-next old memory agree offset (is_done offset before) (is_done offset now) slot (step-more before now slot offset step goes)
-            before earlier now (λ y. ap (λ (s : Slots). s y) step)
-        | false ↦ λ none.
-            let same : now ≡ before = λ i y. step-none before now slot offset step none y i in
-            subst (λ (s : Slots). EndedBefore old s offset (is_done offset s)) (sym same) earlier
-      ] refl
+  pub ending-then : Ending offset old next
+  ending-then y = elim (after y) [
+    | inr same ↦ elim (before y) [
+      | inl lost ↦ inl (lost.0, same ∙ lost.1)
+      | inr kept ↦ inr (same ∙ kept)
+    ]
+    | inl gone ↦ elim (before y) [
+      | inl lost ↦ inl (lost.0, gone.1 ∙ ap (option_map unmapped_entry) lost.1 ∙ entry-twice (old y))
+      | inr kept ↦ inl (
+        subst (λ (held : Option Entry). IsMappedIn (GoesWith old offset) (capability_of held)) kept
+            (mapped-more (GoesWith now offset) (GoesWith old offset) goes-before (capability_at now y) gone.0),
+        gone.1 ∙ ap (option_map unmapped_entry) kept,
+      )
+    ]
+  ]
 
-  -- where nothing that goes is left all has gone
-  pub ending-all : (now : Slots) → Ending offset old now → ((y : ℕ) → is_ending offset (capability_at now y) ≡ false) → (y : ℕ) → Ended old offset y (now y)
-  ending-all now ends none = ended-all old memory agree offset (is_done offset now) (λ slot full. ap not (none slot)) now (ending-before now ends)
+-- ---- one page table
 
--- nothing goes if the table itself has no mapping, and none is mapped for any region under it
-module _ (now : Slots) (memory : List ℕ) (agree : TablesAgree now memory) (offset : ℕ) (itself : HasEnded now offset offset)
-    (passed : (region : ℕ) → region < 2 ^ 9 → (t : ℕ) → MapsTable now offset region t → ⊥) where
-  pub none-ending : (y : ℕ) → is_ending offset (capability_at now y) ≡ false
-  none-ending y = elim (ending-cases offset (capability_at now y)) [
-    | inr none ↦ none.0
-    | inl going ↦
-        let t = going.1.0 in
-        let m = going.1.1 in
-        let held = going.1.2 in
-        let fine : IsCapability (PageTable t (Some m)) = subst (λ (c : Cap). IsCapability c) held (agree.valid y) in
-        elim (going.1.3) [
-          | inl root ↦ absurd (passed m.region fine.1.1 t
-              (record { slot = y; held = held ∙ ap (λ (n : ℕ). PageTable t (Some (record { root = n; region = m.region }))) root }))
-          | inr here ↦
-              let stays = itself y m (held ∙ ap (λ (n : ℕ). PageTable n (Some m)) here) in
-              let clash : false ≡ true = sym stays ∙ goes-ending offset offset m (inr refl) in
-              absurd cc
-        ]
+module _ (old cleared next : Slots) (slot offset t : ℕ) (m : TableMapping) (held : capability_at old slot ≡ PageTable t (Some m))
+    (goes : is_ending offset (PageTable t (Some m)) ≡ true) (partly : IsPartlyCleared (goes_along (extent_of m.root offset) m) old cleared)
+    (changed : next ≡ recapped cleared slot (PageTable t None)) where
+  goes-here : GoesWith old offset m.root m.region
+  goes-here = elim (eqb_tells m.root offset) [
+    | inl a ↦ inl a.1
+    | inr a ↦ elim (eqb_tells t offset) [
+      | inl b ↦ inr (record { slot = slot; held = held ∙ ap (λ (n : ℕ). PageTable n (Some m)) b.1 })
+      | inr b ↦
+          let stays : is_ending offset (PageTable t (Some m)) ≡ false = rw (a.0, b.0) refl in
+          absurd (let clash : true ≡ false = sym goes ∙ stays in cc)
+    ]
+  ]
+
+  -- the frames that go along go with the table at the offset
+  frame-goes : (c : Cap) → goes_along (extent_of m.root offset) m c ≡ true → IsMappedIn (GoesWith old offset) c
+  frame-goes c along = elim (eqb_tells m.root offset) [
+    | inl a ↦ along-root (GoesWith old offset) m c
+        (sym (ap (λ (b : Bool). goes_along (if b then extents.Root else extents.Region) m c) a.0) ∙ along) (λ region. inl a.1)
+    | inr a ↦ stands-mapped (GoesWith old offset) m c
+        (sym (ap (λ (b : Bool). goes_along (if b then extents.Root else extents.Region) m c) a.0) ∙ along) goes-here
+  ]
+
+  untouched : cleared slot ≡ old slot
+  untouched = partly-untouched (extent_of m.root offset) m old cleared partly slot t (Some m) held
+
+  own-gone : next slot ≡ option_map unmapped_entry (old slot)
+  own-gone =
+      ap (λ (s : Slots). s slot) changed
+      ∙ entry-same cleared slot (Some (record { capability = PageTable t None; parent = parent_at cleared slot }))
+      ∙ ap (λ (p : Option ℕ). Some (record { capability = PageTable t None; parent = p })) (ap parent_of untouched)
+      ∙ sym (table-entry (old slot) t (Some m) held)
+
+  other-gone : (y : ℕ) → y ≢ slot → next y ≡ cleared y
+  other-gone y other =
+      ap (λ (s : Slots). s y) changed
+      ∙ entry-other cleared slot (Some (record { capability = PageTable t None; parent = parent_at cleared slot })) y other
+
+  pub table-ending : Ending offset old next
+  table-ending y = elim (eqb_tells y slot) [
+    | inl same ↦ inl (
+      subst (λ (n : ℕ). IsMappedIn (GoesWith old offset) (capability_at old n)) (sym same.1)
+          (subst (λ (c : Cap). IsMappedIn (GoesWith old offset) c) (sym held) goes-here),
+      subst (λ (n : ℕ). next n ≡ option_map unmapped_entry (old n)) (sym same.1) own-gone,
+    )
+    | inr other ↦ elim (partly y) [
+      | inl lost ↦ inl (frame-goes (capability_at old y) lost.0, other-gone y other.1 ∙ lost.1)
+      | inr kept ↦ inr (other-gone y other.1 ∙ kept)
+    ]
+  ]
+
+-- a page table that has lost its mapping does not go
+pub table-ended : (slots next : Slots) (slot offset t : ℕ) → next ≡ recapped slots slot (PageTable t None) → is_ending offset (capability_at next slot) ≡ false
+table-ended slots next slot offset t changed =
+    ap (λ (held : Option Entry). is_ending offset (capability_of held))
+    (ap (λ (s : Slots). s slot) changed ∙ entry-same slots slot (Some (record { capability = PageTable t None; parent = parent_at slots slot })))
+
+-- ---- the whole
+
+-- nothing that goes is left if the table itself has no mapping, and none is mapped for any region under it
+module _ (old now : Slots) (before after : List ℕ) (offset : ℕ) (agree : TablesAgree old before) (agrees : TablesAgree now after) (ends : Ending offset old now)
+    (itself : HasEnded now offset offset) (passed : (region : ℕ) → region < 2 ^ 9 → (t : ℕ) → MapsTable now offset region t → ⊥) where
+  -- the page table of a region that goes is not mapped any more
+  table-left : (root region t : ℕ) → GoesWith old offset root region → MapsTable now root region t → ⊥
+  table-left root region t goes maps = elim goes [
+    | inl under ↦
+        let fine : IsCapability (PageTable t (Some (record { root = root; region = region }))) =
+        subst (λ (c : Cap). IsCapability c) maps.held (agrees.valid maps.slot) in
+        passed region fine.1.1 t (subst (λ (n : ℕ). MapsTable now n region t) under maps)
+    | inr was ↦
+        let first = less-maps old now (ending-less offset old now ends) root region t maps in
+        let same : t ≡ offset = table-one old before agree first.slot was.slot t offset _ _ first.held was.held refl refl in
+        let stays = itself maps.slot _ (maps.held ∙ ap (λ (n : ℕ). PageTable n (Some (record { root = root; region = region }))) same) in
+        let clash : false ≡ true = sym stays ∙ goes-ending offset offset (record { root = root; region = region }) (inr refl) in
+        absurd cc
+  ]
+
+  none-left : (y : ℕ) (c : Cap) → capability_at now y ≡ c → IsMappedIn (GoesWith old offset) c → ⊥
+  none-left y (Frame f r (Some k)) held goes =
+      let leaf = agrees.leaves y f r k held in
+      table-left k.root (k.page / 2 ^ 10) leaf.0 goes leaf.1
+  none-left y (PageTable t (Some k)) held goes = table-left k.root k.region t goes (record { slot = y; held = held })
+  none-left y _ held goes = absurd goes
+
+  pub ending-all : (y : ℕ) → Ended old offset y (now y)
+  ending-all y = elim (ends y) [
+    | inl lost ↦ inl lost
+    | inr kept ↦ inr (
+      λ goes. none-left y (capability_at now y) refl
+          (subst (λ (held : Option Entry). IsMappedIn (GoesWith old offset) (capability_of held)) (sym kept) goes),
+      kept,
+    )
   ]
 
 -- the page table that is mapped for a region has ended once all that name it were looked at

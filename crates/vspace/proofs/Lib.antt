@@ -16,6 +16,7 @@ mod Sweeps
 mod RegionEntries
 mod TableUnmaps
 mod EndedTables
+mod LostMappings
 mod EndingSteps
 mod EndedRoots
 mod BytesBeside

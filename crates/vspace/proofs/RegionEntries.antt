@@ -16,10 +16,12 @@ use Rattle.model.specs.declared.capabilities.FrameMapping.{FrameMapping}
 use Rattle.model.specs.declared.capabilities.TableMapping.{TableMapping}
 use Rattle.model.specs.declared.rights.Rights.{Rights}
 use Rattle.slots.specs.Listed.{is_naming}
-use Rattle.vspace.specs.Regions.{IsPartlyCleared}
+use Rattle.vspace.specs.Regions.{goes_along}
+use Rattle.vspace.specs.declared.extents.Extent.{Extent}
 use Rattle.vspace.specs.Tables.{MapsFrame, MapsTable, TablesAgree}
 use Rattle.vspace.proofs.EndedTables.{stands-here}
-use Rattle.vspace.proofs.Sweeps.{partly-before}
+use Rattle.vspace.proofs.LostMappings.{IsLess, less-frame}
+use Rattle.vspace.proofs.Sweeps.{along-region}
 use Rattle.vspace.proofs.Taken.{page-leaf}
 use Rattle.vspace.proofs.Writes.{frame-place}
 
@@ -75,37 +77,38 @@ module _ (slots : Slots) (memory : List ℕ) (agree : TablesAgree slots memory) 
 
 -- ---- clearing one entry after another
 
-module _ (old now : Slots) (m : TableMapping) (partly : IsPartlyCleared old now m) where
+module _ (old now : Slots) (m : TableMapping) (less : IsLess old now) where
   -- what is mapped at an entry was mapped there before
-  entry-before : (i : ℕ) → i < 2 ^ 10 → (maps : MapsEntry now m i) → MapsEntry old m i
-  entry-before i few maps = record {
+  entry-before : (i : ℕ) (maps : MapsEntry now m i) → MapsEntry old m i
+  entry-before i maps = record {
     slot = maps.slot;
     frame = maps.frame;
     frame_rights = maps.frame_rights;
     allowed = maps.allowed;
-    held = partly-before old now m partly maps.slot _ maps.held (entry-inside now m i few maps);
+    held = less-frame old now less maps.slot maps.frame maps.frame_rights _ maps.held;
   }
 
-  pub entry-found : (i : ℕ) → i < 2 ^ 10 → (result : Option ℕ) → ((maps : MapsEntry old m i) → result ≡ Some maps.frame) → (maps : MapsEntry now m i) →
+  pub entry-found : (i : ℕ) (result : Option ℕ) → ((maps : MapsEntry old m i) → result ≡ Some maps.frame) → (maps : MapsEntry now m i) →
       result ≡ Some maps.frame
   unfolding entry-before
-  entry-found i few result found maps = found (entry-before i few maps)
+  entry-found i result found maps = found (entry-before i maps)
 
-  pub entries-next : (number : ℕ) → number < 2 ^ 10 → ((i : ℕ) → i < number → MapsEntry old m i → ⊥) → (MapsEntry now m number → ⊥) → (i : ℕ) → i < number + 1 →
+  pub entries-next : (number : ℕ) → ((i : ℕ) → i < number → MapsEntry old m i → ⊥) → (MapsEntry now m number → ⊥) → (i : ℕ) → i < number + 1 →
       MapsEntry now m i → ⊥
-  entries-next number few before here i less maps = elim (eqb_tells i number) [
+  entries-next number before here i below maps = elim (eqb_tells i number) [
     | inl same ↦ here (subst (λ (n : ℕ). MapsEntry now m n) same.1 maps)
-    | inr other ↦ before i (omega (arith, less, other.1)) (entry-before i (omega (arith, few, less)) maps)
+    | inr other ↦ before i (omega (arith, below, other.1)) (entry-before i maps)
   ]
 
 -- the capability that is mapped at an entry names its frame, and lies in the region
 pub entry-naming : (slots : Slots) (m : TableMapping) (i frame : ℕ) (maps : MapsEntry slots m i) → frame ≡ maps.frame → is_naming slots frame maps.slot ≡ true
 entry-naming slots m i frame maps same = ap (names_object frame) maps.held ∙ eq-eqb maps.frame frame (sym same)
 
-pub entry-free : (slots : Slots) (m : TableMapping) (i : ℕ) → i < 2 ^ 10 → (maps : MapsEntry slots m i) →
-    lies_in_region m (capability_at slots maps.slot) ≡ false → ⊥
-entry-free slots m i few maps outside =
-    let clash : true ≡ false = sym (entry-inside slots m i few maps) ∙ sym (ap (lies_in_region m) maps.held) ∙ outside in
+pub entry-free : (slots : Slots) (extent : Extent) (m : TableMapping) (i : ℕ) → i < 2 ^ 10 → (maps : MapsEntry slots m i) →
+    goes_along extent m (capability_at slots maps.slot) ≡ false → ⊥
+entry-free slots extent m i few maps stays =
+    let along = along-region extent m (capability_at slots maps.slot) (ap (lies_in_region m) maps.held ∙ entry-inside slots m i few maps) in
+    let clash : true ≡ false = sym along ∙ stays in
     absurd cc
 
 -- where no entry is left none lies in the region

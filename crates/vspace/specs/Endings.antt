@@ -1,12 +1,13 @@
 -- What becomes of the mappings when a page table or a root table ends.
 use Rattle.std.specs.Prelude.{ℕ, ◌≡◌, ◌==◌, ◌/◌, ◌^◌, ◌⊎◌, ◌||◌, Bool, false, if◌then◌else◌, Option, Some, option_map}
-use Rattle.model.specs.Capabilities.CapabilityKinds.{unmapped}
 use Rattle.model.specs.Capabilities.Slots.{Slots, capability_at}
 use Rattle.model.specs.declared.capabilities.Cap.{Cap}
 use Rattle.model.specs.declared.capabilities.Cap.TheVariants.{Frame, PageTable}
 use Rattle.model.specs.declared.capabilities.TableMapping.{TableMapping}
 use Rattle.model.specs.declared.slot_entries.Entry.{Entry}
-use Rattle.removal_laws.specs.Steps.{slots_unmapped}
+use Rattle.vspace.specs.declared.extents.Extent.{Extent}
+use Rattle.vspace.specs.declared.extents.Extent.TheVariants as extents
+use Rattle.vspace.specs.Regions.{unmapped_entry}
 use Rattle.vspace.specs.Tables.{MapsFrame, MapsTable}
 
 -- a mapping in a region goes with the table at an offset: that is its root table, or the page table of its region
@@ -18,10 +19,6 @@ abbrev pub IsMappedIn : (ℕ → ℕ → Type 0) → Cap → Type 0
 IsMappedIn goes (Frame f r (Some m)) = goes m.root (m.page / 2 ^ 10)
 IsMappedIn goes (PageTable t (Some m)) = goes m.root m.region
 IsMappedIn goes _ = ⊥
-
--- what a slot holds, without its mapping; its parent stays
-abbrev pub unmapped_entry : Entry → Entry
-unmapped_entry held = record held { capability = unmapped held.capability }
 
 -- what a slot holds afterwards: it has lost its mapping if that was in one of these regions, and else nothing changed
 abbrev pub Loses : (ℕ → ℕ → Type 0) → Slots → ℕ → Option Entry → Type 0
@@ -44,15 +41,14 @@ abbrev pub is_ending : ℕ → Cap → Bool
 is_ending offset (PageTable table (Some m)) = m.root == offset || table == offset
 is_ending offset _ = false
 
--- the slots once the page table in one of them has been unmapped, if that goes
-abbrev pub ended_at : Slots → ℕ → ℕ → Slots
-ended_at slots slot offset =
-    if is_ending offset (capability_at slots slot) then slots_unmapped slots slot (capability_at slots slot) else slots
+-- how far the end of a page table reaches that goes with the table at an offset: where its root table ends, to all frames under that
+abbrev pub extent_of : ℕ → ℕ → Extent
+extent_of root offset = if root == offset then extents.Root else extents.Region
 
--- the slots once some of the page tables that go with the table at an offset have been unmapped, one after another
-pub data Ending (offset : ℕ) (old : Slots) : Slots → Type 0 where
-  begins : (now : Slots) → now ≡ old → Ending offset old now
-  goes_on : (now next : Slots) (slot : ℕ) → Ending offset old now → next ≡ ended_at now slot offset → Ending offset old next
+-- some slots have lost mappings that go with the table at an offset, and nothing else has changed
+abbrev pub Ending : ℕ → Slots → Slots → Type 0
+Ending offset old now = (slot : ℕ) →
+    (IsMappedIn (GoesWith old offset) (capability_at old slot) × (now slot ≡ option_map unmapped_entry (old slot))) ⊎ (now slot ≡ old slot)
 
 -- no capability to a page table has a mapping that goes with the table at an offset
 abbrev pub HasEnded : Slots → ℕ → ℕ → Type 0

@@ -5,11 +5,13 @@ ghost use Rattle.model.specs.Capabilities.CapabilityKinds.{names_object};
 ghost use Rattle.model.specs.Capabilities.CapabilityWords.{IsPlace};
 ghost use Rattle.model.specs.Capabilities.Slots.{capability_at};
 ghost use Rattle.removal_laws.specs.Steps.{without_root};
-ghost use Rattle.vspace.specs.Endings.{Ended, Ending, HasEnded, NoneUnder, ended_at, is_ending};
+ghost use Rattle.vspace.specs.Endings.{Ended, Ending, HasEnded, NoneUnder, extent_of, is_ending};
 ghost use Rattle.vspace.specs.Kept.{SameBesideTables};
 ghost use Rattle.vspace.specs.Tables.{MapsTable, TablesAgree};
 
-use crate::page_tables::{PageTableCap, unmap_table};
+use crate::extents::Extent;
+use crate::page_tables::drop_table;
+use crate::regions::clear_region;
 use crate::sizes::{LOWER_REGIONS, MEMORY_LIMIT, PAGE_SIZE};
 use crate::tables::table_in;
 use model::{Cap, Slot};
@@ -28,10 +30,22 @@ fn is_ending(held: Cap, offset: u32) -> bool
     }
 }
 
+/// How far the end of a page table under a root table reaches, which goes with the table at an offset.
+fn extent_of(root: u32, offset: u32) -> Extent
+    ensures { result ≡ extent_of root offset }
+{
+    if root == offset {
+        Extent::Root
+    } else {
+        Extent::Region
+    }
+}
+
 /// Unmaps the page table of a slot, if it goes with the table at an offset.
 fn end_table<S: SlotStore>(store: &mut S, slot: Slot, offset: u32)
     requires agree { TablesAgree (S.slots store.old) (S.memory store.old) }
-    ensures slots { S.slots store.new ≡ ended_at (S.slots store.old) slot offset }
+    ensures slots { Ending offset (S.slots store.old) (S.slots store.new) }
+    ensures ended { is_ending offset (capability_at (S.slots store.new) slot) ≡ false }
     ensures bytes { SameBesideTables (S.slots store.old) (S.memory store.old) (S.memory store.new) }
     ensures order { S.order store.new ≡ S.order store.old }
     ensures agree { TablesAgree (S.slots store.new) (S.memory store.new) }
@@ -47,12 +61,11 @@ fn end_table<S: SlotStore>(store: &mut S, slot: Slot, offset: u32)
     else {
         return;
     };
-    let ending = PageTableCap {
-        slot,
-        offset: table,
-        mapping,
+    let Some(mapping) = mapping else {
+        return;
     };
-    unmap_table(store, ending);
+    clear_region(store, table, extent_of(mapping.root, offset), mapping);
+    drop_table(store, slot, table, mapping);
 }
 
 /// Unmaps the page table on a page, if it goes with the table at an offset. Each capability that names the page is

@@ -5,6 +5,7 @@
 mod agreement;
 mod arguments;
 mod endings;
+mod extents;
 mod frames;
 mod page_tables;
 mod regions;

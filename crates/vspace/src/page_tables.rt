@@ -1,19 +1,21 @@
 //! Mapping page tables.
 
-ghost use Rattle.std.specs.Prelude.{◌≡◌, ◌<◌, ◌/◌, ◌^◌, [], ◌∷◌, IfOk, OnErr};
+ghost use Rattle.std.specs.Prelude.{◌≡◌, ◌<◌, ◌/◌, ◌^◌, [], ◌∷◌, None, IfOk, OnErr};
 ghost use Rattle.model.specs.Capabilities.CapabilityWords.{IsCapability, IsPlace};
 ghost use Rattle.model.specs.Kernel.Arguments.{Call};
 ghost use Rattle.model.specs.Kernel.MappingCalls.{unmap_table};
 ghost use Rattle.model.specs.Kernel.State.{with_slots};
-ghost use Rattle.model.specs.Capabilities.Slots.{capability_at};
+ghost use Rattle.model.specs.Capabilities.Slots.{capability_at, recapped};
 ghost use Rattle.model.specs.Kernel.State.{State};
 ghost use Rattle.model.specs.Machine.Sv32.{table_word};
 ghost use Rattle.removal_laws.specs.Steps.{slots_unmapped};
 ghost use Rattle.vspace.specs.Kept.{SameBesideTables};
 ghost use Rattle.vspace.specs.TableAnswers.{GivesTableMapped, RegionAnswer, TableMappingAnswer, region_named};
+ghost use Rattle.vspace.specs.Regions.{IsDroppable};
 ghost use Rattle.vspace.specs.Tables.{Holds, TablesAgree};
 
 use crate::arguments::root_named;
+use crate::extents::Extent;
 use crate::regions::clear_region;
 use crate::sizes::{ADDRESS_LIMIT, REGION_SIZE};
 use crate::tables::table_in;
@@ -129,6 +131,27 @@ pub fn map_table<S: SlotStore>(
     Ok(())
 }
 
+/// Unmaps a page table in whose region no frame is mapped any more.
+pub(crate) fn drop_table<S: SlotStore>(
+    store: &mut S,
+    slot: Slot,
+    offset: u32,
+    mapping: TableMapping,
+)
+    requires { IsDroppable (S.slots store.old) (S.memory store.old) slot offset mapping }
+    ensures slots { S.slots store.new ≡ recapped (S.slots store.old) slot (Cap.PageTable offset None) }
+    ensures bytes { SameBesideTables (S.slots store.old) (S.memory store.old) (S.memory store.new) }
+    ensures order { S.order store.new ≡ S.order store.old }
+    ensures agree { TablesAgree (S.slots store.new) (S.memory store.new) }
+{
+    store.write32(mapping.root + 4 * mapping.region, 0);
+    let unmapped = Cap::PageTable {
+        offset,
+        mapping: None,
+    };
+    store.set_cap(slot, unmapped);
+}
+
 /// Unmaps a page table, and the frames in its region with it. Nothing happens if it is not mapped.
 pub fn unmap_table<S: SlotStore>(store: &mut S, table: PageTableCap)
     requires agree { TablesAgree (S.slots store.old) (S.memory store.old) }
@@ -148,11 +171,6 @@ pub fn unmap_table<S: SlotStore>(store: &mut S, table: PageTableCap)
     let Some(mapping) = table.mapping else {
         return;
     };
-    clear_region(store, offset, mapping);
-    store.write32(mapping.root + 4 * mapping.region, 0);
-    let unmapped = Cap::PageTable {
-        offset,
-        mapping: None,
-    };
-    store.set_cap(slot, unmapped);
+    clear_region(store, offset, Extent::Region, mapping);
+    drop_table(store, slot, offset, mapping);
 }

@@ -1,11 +1,10 @@
 -- No capability to a page table names what is no page.
 use Rattle.std.proofs.Common.{◌∙◌, ◌%◌, ℕ, inl, inr, Some, refl, ap, arith}
-use Rattle.vspace.specs.Endings.{begins}
 use Rattle.vspace.proofs.EndingSteps.{table-place}
 use Rattle.vspace.proofs.endings.end_at.Goals as goal
 
 pub returns-else-table-from-eq0-clause-slots : goal.returns-else-table-from-eq0-clause-slots
-returns-else-table-from-eq0-clause-slots g c = begins (g.S.SlotMap.slots c.args.store.now) refl
+returns-else-table-from-eq0-clause-slots g c = λ y. inr refl
 
 pub returns-else-table-from-eq0-clause-ended : goal.returns-else-table-from-eq0-clause-ended
 returns-else-table-from-eq0-clause-ended g c = λ slot m held.

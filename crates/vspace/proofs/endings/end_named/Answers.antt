@@ -1,21 +1,22 @@
 -- Each turn passes one capability that names the page, and keeps which do.
-use Rattle.std.proofs.Common.{◌≡◌, ◌∙◌, ◌<◌, ℕ, List, None, Some, length, refl, sym, ap, subst}
+use Rattle.std.proofs.Common.{◌≡◌, ◌∙◌, ◌<◌, ℕ, List, inr, None, Some, length, refl, sym, ap, subst}
 use Rattle.std.proofs.lemmas.Bool.{eq-eqb}
 use Rattle.model.proofs.Orders.{behind}
 use Rattle.model.specs.Capabilities.CapabilityKinds.{names_object}
 use Rattle.model.specs.Capabilities.Orders.{next_in}
 use Rattle.model.specs.Capabilities.Slots.{Slots, capability_at}
 use Rattle.slots.specs.Listed.{naming}
-use Rattle.vspace.specs.Endings.{begins, goes_on, is_ending}
+use Rattle.vspace.specs.Endings.{is_ending}
 use Rattle.vspace.proofs.BytesBeside.{beside-same, beside-then, fewer-less}
-use Rattle.vspace.proofs.EndingSteps.{ending-less, less-ending, less-names, step-ended, step-less}
+use Rattle.vspace.proofs.EndingSteps.{ending-less, ending-then, less-ending}
+use Rattle.vspace.proofs.LostMappings.{less-names}
 use Rattle.vspace.proofs.NamedSlots.{NamedSoFar, named-fewer, named-first, named-full, named-last, named-next}
 use Rattle.vspace.proofs.endings.end_named.Goals as goal
 
 pub slots-init : goal.slots-init
 slots-init g c = record {
   named = named-first (is_ending c.args.offset) (g.S.SlotStore.order c.args.store.now) (g.S.SlotMap.slots c.args.store.now) c.args.table;
-  ending = begins (g.S.SlotMap.slots c.args.store.now) refl;
+  ending = λ y. inr refl;
   bytes = beside-same (g.S.SlotMap.slots c.args.store.now) (g.S.SlotStore.memory c.args.store.now);
   order = refl;
   agree = c.requires.agree;
@@ -35,7 +36,7 @@ slots-smaller g c =
     let order : List ℕ = g.S.SlotStore.order c.slots.store in
     let is : Some c.in-Some.slot ≡ next_in (naming order now c.args.table) c.slots.at =
     ◌∙◌ {c = next_in (naming order now c.args.table) c.slots.at} (sym c.in-Some.is) c.next_naming.ensures.next in
-    let less = step-less now next c.in-Some.slot c.args.offset c.end_table.ensures.slots in
+    let less = ending-less c.args.offset now next c.end_table.ensures.slots in
     subst (λ (l : List ℕ). length (behind (naming l next c.args.table) (Some c.in-Some.slot)) < length (behind (naming order now c.args.table) c.slots.at))
     (sym c.end_table.ensures.order)
     (named-fewer order now c.args.table c.next_naming.ensures.lists (is_ending c.args.offset) c.slots.at c.slots.invariant.named c.in-Some.slot is next
@@ -49,13 +50,13 @@ slots-preserved g c =
     let order : List ℕ = g.S.SlotStore.order c.slots.store in
     let is : Some c.in-Some.slot ≡ next_in (naming order now c.args.table) c.slots.at =
     ◌∙◌ {c = next_in (naming order now c.args.table) c.slots.at} (sym c.in-Some.is) c.next_naming.ensures.next in
-    let less = step-less now next c.in-Some.slot c.args.offset c.end_table.ensures.slots in
+    let less = ending-less c.args.offset now next c.end_table.ensures.slots in
     record {
       named = subst (λ (l : List ℕ). NamedSoFar (is_ending c.args.offset) l next c.args.table (Some c.in-Some.slot)) (sym c.end_table.ensures.order)
           (named-next order now c.args.table c.next_naming.ensures.lists (is_ending c.args.offset) c.slots.at c.slots.invariant.named c.in-Some.slot is next
           (less-names now next less c.args.table)
-          c.in-Some.ensures.found_known (less-ending now next less c.args.offset) (step-ended now next c.in-Some.slot c.args.offset c.end_table.ensures.slots));
-      ending = goes_on now next c.in-Some.slot c.slots.invariant.ending c.end_table.ensures.slots;
+          c.in-Some.ensures.found_known (less-ending now next less c.args.offset) c.end_table.ensures.ended);
+      ending = ending-then c.args.offset old now next c.slots.invariant.ending c.end_table.ensures.slots;
       bytes = beside-then old now (g.S.SlotStore.memory c.args.store.now) (g.S.SlotStore.memory c.slots.store) (g.S.SlotStore.memory c.end_table.new.store)
           (fewer-less old now (ending-less c.args.offset old now c.slots.invariant.ending)) c.slots.invariant.bytes c.end_table.ensures.bytes;
       order = c.end_table.ensures.order ∙ c.slots.invariant.order;

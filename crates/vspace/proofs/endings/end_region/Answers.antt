@@ -1,13 +1,14 @@
 -- A page table that is mapped for the region has its pointer in the entry.
-use Rattle.std.proofs.Common.{ℕ, ◌≡◌, None, Some, refl, subst}
+use Rattle.std.proofs.Common.{ℕ, ◌≡◌, inr, None, Some, refl, subst}
 use Rattle.model.specs.Capabilities.Slots.{Slots}
-use Rattle.vspace.specs.Endings.{HasEnded, begins}
+use Rattle.vspace.specs.Endings.{HasEnded}
 use Rattle.vspace.specs.Tables.{table_in}
-use Rattle.vspace.proofs.EndingSteps.{ending-less, less-maps, pointer-found, region-gone}
+use Rattle.vspace.proofs.EndingSteps.{ending-less, pointer-found, region-gone}
+use Rattle.vspace.proofs.LostMappings.{less-maps}
 use Rattle.vspace.proofs.endings.end_region.Goals as goal
 
 pub returns-in_default-clause-slots : goal.returns-in_default-clause-slots
-returns-in_default-clause-slots g c = begins (g.S.SlotMap.slots c.args.store.now) refl
+returns-in_default-clause-slots g c = λ y. inr refl
 
 pub returns-in_default-clause-gone : goal.returns-in_default-clause-gone
 returns-in_default-clause-gone g c = λ table maps.

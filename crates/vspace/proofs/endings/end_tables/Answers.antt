@@ -5,7 +5,7 @@ use Rattle.vspace.specs.Endings.{HasEnded}
 use Rattle.vspace.proofs.BytesBeside.{beside-then, fewer-less}
 use Rattle.vspace.proofs.EndedRoots.{ended-root}
 use Rattle.vspace.proofs.EndedTables.{ended-gone}
-use Rattle.vspace.proofs.EndingSteps.{ending-all, ending-less, ending-then, less-ended, less-regions, none-ending}
+use Rattle.vspace.proofs.EndingSteps.{ending-all, ending-less, ending-then, less-ended, less-regions}
 use Rattle.vspace.proofs.endings.end_tables.Goals as goal
 
 pub regions-init : goal.regions-init
@@ -36,10 +36,9 @@ regions-preserved g c =
 
 pub returns-clause-slots : goal.returns-clause-slots
 returns-clause-slots g c =
-    ending-all (g.S.SlotMap.slots c.args.store.now) (g.S.SlotStore.memory c.args.store.now) c.requires.agree c.args.offset (g.S.SlotMap.slots c.regions.store)
-    c.regions.invariant.ending
-    (none-ending (g.S.SlotMap.slots c.regions.store) (g.S.SlotStore.memory c.regions.store) c.regions.invariant.agree c.args.offset c.regions.invariant.itself
-    (λ region less. c.regions.invariant.passed region (omega (arith, less, c.regions-test.false))))
+    ending-all (g.S.SlotMap.slots c.args.store.now) (g.S.SlotMap.slots c.regions.store) (g.S.SlotStore.memory c.args.store.now)
+    (g.S.SlotStore.memory c.regions.store) c.args.offset c.requires.agree c.regions.invariant.agree c.regions.invariant.ending c.regions.invariant.itself
+    (λ region less. c.regions.invariant.passed region (omega (arith, less, c.regions-test.false)))
 
 pub returns-clause-gone : goal.returns-clause-gone
 returns-clause-gone g c =

@@ -1,18 +1,20 @@
 -- Each turn passes one capability that names the frame, and keeps which do.
-use Rattle.std.proofs.Common.{◌≡◌, ◌∙◌, ◌<◌, ℕ, List, Some, inr, length, refl, sym, subst}
+use Rattle.std.proofs.Common.{◌≡◌, ◌∙◌, ◌<◌, ℕ, Bool, List, Some, inr, length, refl, sym, subst}
 use Rattle.model.proofs.Orders.{behind}
 use Rattle.model.specs.Capabilities.Orders.{next_in}
 use Rattle.model.specs.Capabilities.Slots.{Slots, capability_at}
-use Rattle.model.specs.Kernel.MappingCalls.{lies_in_region}
+use Rattle.model.specs.declared.capabilities.Cap.{Cap}
 use Rattle.slots.specs.Listed.{naming}
-use Rattle.vspace.proofs.BytesBeside.{beside-same, beside-then, fewer-partly}
+use Rattle.vspace.specs.Regions.{goes_along}
+use Rattle.vspace.proofs.BytesBeside.{beside-same, beside-then, fewer-less}
+use Rattle.vspace.proofs.LostMappings.{less-names}
 use Rattle.vspace.proofs.NamedSlots.{NamedSoFar, named-fewer, named-first, named-full, named-last, named-next}
-use Rattle.vspace.proofs.Sweeps.{partly-cleared, partly-names, partly-outside, partly-then, slot-cleared}
+use Rattle.vspace.proofs.Sweeps.{partly-cleared, partly-less, partly-outside, partly-then, slot-cleared}
 use Rattle.vspace.proofs.regions.clear_named.Goals as goal
 
 pub slots-init : goal.slots-init
 slots-init g c = record {
-  named = named-first (lies_in_region c.args.region) (g.S.SlotStore.order c.args.store.now) (g.S.SlotMap.slots c.args.store.now) c.args.frame;
+  named = named-first (goes_along c.args.extent c.args.region) (g.S.SlotStore.order c.args.store.now) (g.S.SlotMap.slots c.args.store.now) c.args.frame;
   partly = λ y. inr refl;
   bytes = beside-same (g.S.SlotMap.slots c.args.store.now) (g.S.SlotStore.memory c.args.store.now);
   order = refl;
@@ -33,11 +35,12 @@ slots-smaller g c =
     let order : List ℕ = g.S.SlotStore.order c.slots.store in
     let is : Some c.in-Some.slot ≡ next_in (naming order now c.args.frame) c.slots.at =
     ◌∙◌ {c = next_in (naming order now c.args.frame) c.slots.at} (sym c.in-Some.is) c.next_naming.ensures.next in
-    let partly = partly-cleared now next c.in-Some.slot c.args.region c.clear_frame.ensures.slots in
+    let partly = partly-cleared c.args.extent c.args.region now next c.in-Some.slot c.clear_frame.ensures.slots in
     subst (λ (l : List ℕ). length (behind (naming l next c.args.frame) (Some c.in-Some.slot)) < length (behind (naming order now c.args.frame) c.slots.at))
     (sym c.clear_frame.ensures.order)
-    (named-fewer order now c.args.frame c.next_naming.ensures.lists (lies_in_region c.args.region) c.slots.at c.slots.invariant.named c.in-Some.slot is next
-    (partly-names now next c.args.region partly c.args.frame))
+    (named-fewer order now c.args.frame c.next_naming.ensures.lists (goes_along c.args.extent c.args.region) c.slots.at c.slots.invariant.named
+    c.in-Some.slot is next
+    (less-names now next (partly-less c.args.extent c.args.region now next partly) c.args.frame))
 
 pub slots-preserved : goal.slots-preserved
 slots-preserved g c =
@@ -47,22 +50,23 @@ slots-preserved g c =
     let order : List ℕ = g.S.SlotStore.order c.slots.store in
     let is : Some c.in-Some.slot ≡ next_in (naming order now c.args.frame) c.slots.at =
     ◌∙◌ {c = next_in (naming order now c.args.frame) c.slots.at} (sym c.in-Some.is) c.next_naming.ensures.next in
-    let partly = partly-cleared now next c.in-Some.slot c.args.region c.clear_frame.ensures.slots in
+    let goes : Cap → Bool = goes_along c.args.extent c.args.region in
+    let partly = partly-cleared c.args.extent c.args.region now next c.in-Some.slot c.clear_frame.ensures.slots in
     record {
-      named = subst (λ (l : List ℕ). NamedSoFar (lies_in_region c.args.region) l next c.args.frame (Some c.in-Some.slot)) (sym c.clear_frame.ensures.order)
-          (named-next order now c.args.frame c.next_naming.ensures.lists (lies_in_region c.args.region) c.slots.at c.slots.invariant.named c.in-Some.slot is
-          next
-          (partly-names now next c.args.region partly c.args.frame) c.in-Some.ensures.found_known (partly-outside now next c.args.region partly)
-          (slot-cleared now next c.in-Some.slot c.args.region c.clear_frame.ensures.slots));
-      partly = partly-then old now next c.args.region c.slots.invariant.partly partly;
+      named = subst (λ (l : List ℕ). NamedSoFar goes l next c.args.frame (Some c.in-Some.slot)) (sym c.clear_frame.ensures.order)
+          (named-next order now c.args.frame c.next_naming.ensures.lists goes c.slots.at c.slots.invariant.named c.in-Some.slot is next
+          (less-names now next (partly-less c.args.extent c.args.region now next partly) c.args.frame) c.in-Some.ensures.found_known
+          (partly-outside c.args.extent c.args.region now next partly)
+          (slot-cleared c.args.extent c.args.region now next c.in-Some.slot c.clear_frame.ensures.slots));
+      partly = partly-then c.args.extent c.args.region old now next c.slots.invariant.partly partly;
       bytes = beside-then old now (g.S.SlotStore.memory c.args.store.now) (g.S.SlotStore.memory c.slots.store) (g.S.SlotStore.memory c.clear_frame.new.store)
-          (fewer-partly old now c.args.region c.slots.invariant.partly) c.slots.invariant.bytes c.clear_frame.ensures.bytes;
+          (fewer-less old now (partly-less c.args.extent c.args.region old now c.slots.invariant.partly)) c.slots.invariant.bytes c.clear_frame.ensures.bytes;
       order = c.clear_frame.ensures.order ∙ c.slots.invariant.order;
       agree = c.clear_frame.ensures.agree;
     }
 
 pub returns-in_default-clause-named : goal.returns-in_default-clause-named
 returns-in_default-clause-named g c =
-    named-last (g.S.SlotStore.order c.slots.store) (g.S.SlotMap.slots c.slots.store) c.args.frame c.next_naming.ensures.lists (lies_in_region c.args.region)
-    c.slots.at c.slots.invariant.named
+    named-last (g.S.SlotStore.order c.slots.store) (g.S.SlotMap.slots c.slots.store) c.args.frame c.next_naming.ensures.lists
+    (goes_along c.args.extent c.args.region) c.slots.at c.slots.invariant.named
     (sym c.in_default.is ∙ c.next_naming.ensures.next)
