@@ -5,7 +5,7 @@
 
 The word `N` stands for how long a run is: LONG, and then SHORT. Each function has what valgrind's callgrind counts in it alone for the
 longer run, less that for the shorter one, for each step. Functions with less than a tenth of an instruction are left out. For the
-program of crowd_bench.rt.in: `by_function.py 100000 120 20 crowd_bench calls 0 ready N 24`.
+program of crowd_bench.rt.in: `by_function.py 100000 120 20 crowd_bench calls 0 ready N 24 step one`.
 """
 import collections
 import re

@@ -10,10 +10,11 @@ instructions() {
         sed -n 's/.*I *refs: *\([0-9,]*\).*/\1/p' | tr -d ,
 }
 
-# How many instructions a step of a case takes beside other threads, in memory of so many bits.
+# How many instructions a step of a case takes beside other threads, in memory of so many bits, one a call or all in one, with one root
+# table or two.
 step() {
-    long=$(instructions $1 $2 120 $3)
-    short=$(instructions $1 $2 20 $3)
+    long=$(instructions $1 $2 120 $3 ${4:-step} ${5:-one})
+    short=$(instructions $1 $2 20 $3 ${4:-step} ${5:-one})
     echo $(((long - short) / 100000))
 }
 
@@ -28,4 +29,10 @@ done
 # Of seven steps two are a Call and its reply.
 for case in words buffers; do
     echo "$case: $(step $case "0 ready" 24) instructions a step"
+done
+
+for case in count memory yield turns calls; do
+    for root in one own; do
+        echo "$case, all in one call, root tables: $root: $(step $case "0 ready" 24 run $root) instructions a step"
+    done
 done

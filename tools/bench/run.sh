@@ -20,7 +20,7 @@ store_bench: model slots
 lookup_bench: model slots cspace
 revoke_bench: model kernel kernel_machine
 kernel_bench: model kernel kernel_machine
-crowd_bench: model kernel
+crowd_bench: model kernel user_memory
 LIST
 for name in exec_bench store_bench lookup_bench revoke_bench kernel_bench crowd_bench; do
     (cd "$copy/crates/$name" && rt run >"$copy/$name.log" 2>&1)

@@ -1,5 +1,5 @@
 -- Bytes that are written where frames are change the state's bytes alone.
-use Rattle.std.proofs.Common.{ℕ, ◌≡◌, ◌∙◌, ◌+◌, ◌-◌, ◌<◌, ◌≤◌, Bool, true, false, if◌then◌else◌, Option, Some, None, IsSome, option_map, List, length, refl}
+use Rattle.std.proofs.Common.{ℕ, ◌≡◌, ◌∙◌, ◌+◌, ◌-◌, ◌<◌, ◌≤◌, Bool, true, false, if◌then◌else◌, Option, None, IsSome, option_map, List, length, refl}
 use Rattle.std.proofs.Common.{ap, subst}
 use Rattle.std.specs.Prelude.{slice_index}
 use Rattle.kernel_invariant.specs.Agreement.{Agrees}

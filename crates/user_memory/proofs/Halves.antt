@@ -1,15 +1,25 @@
 -- The two bytes of a halfword at a multiple of 2 lie in one page.
 use Rattle.std.proofs.Common.{ℕ, ◌≡◌, ◌∙◌, ◌+◌, ◌%◌, ◌^◌, ◌<◌, Option, Ok, List, [], ◌∷◌, refl, sym, ap, arith}
-use Rattle.std.specs.Int.{from_le_bytes, to_le_bytes, w16, w32}
+use Rattle.std.specs.Int.{from_le_bytes, to_le_bytes, w8, w16, w32}
 use Rattle.std.specs.Prelude.{slice_index}
 use Rattle.model.specs.Kernel.State.{State}
 use Rattle.model.specs.Machine.ProgramMemory.{Content, IsNamed, loaded, next_address, place_at, place_or_fault, put_byte, put_bytes, stored}
 use Rattle.model.specs.declared.instructions.Access.{Access}
 use Rattle.model.specs.declared.instructions.Access.TheVariants.{Store}
-use Rattle.model.specs.declared.instructions.AccessSize.TheVariants.{Halfword}
+use Rattle.model.specs.declared.instructions.AccessSize.TheVariants.{Byte, Halfword}
 use Rattle.user_memory.proofs.Named.{place-found}
 use Rattle.user_memory.proofs.Words.{place-near}
 use Rattle.user_memory.specs.Views.{content_under}
+
+one-stored : (content : Content) (a p value : ℕ) → place_at content Store a ≡ Ok p
+    → stored content Byte a value ≡ Ok (put_bytes content (p ∷ []) (to_le_bytes w8 value))
+one-stored content a p value found = rw found refl
+
+-- a byte that is stored is the first one of the number
+pub byte-stored : (content : Content) (address place value : ℕ) (bytes : List ℕ) → Ok place ≡ place_at content Store address → bytes ≡ to_le_bytes w32 value
+    → stored content Byte address value ≡ Ok (put_byte content place (slice_index bytes 0))
+byte-stored content address place value bytes found is =
+    one-stored content address place value (sym found) ∙ sym (ap (λ (b : List ℕ). Ok (put_byte content place (slice_index b 0))) is)
 
 two-places : (content : Content) (access : Access) (a p q : ℕ) → place_at content access a ≡ Ok p → place_at content access (next_address a) ≡ Ok q
     → loaded content access Halfword a ≡ Ok (from_le_bytes w16 (content.byte p ∷ content.byte q ∷ []))

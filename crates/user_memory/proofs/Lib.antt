@@ -10,8 +10,10 @@ pub mod KeptSteps
 pub mod Laws
 pub mod Leaves
 pub mod Named
+pub mod Numbers
 pub mod OwnRegisters
 pub mod PagePlaces
+pub mod Reached
 pub mod Reading
 pub mod Running
 pub mod Stored
@@ -19,6 +21,7 @@ pub mod ThreadsNear
 pub mod Unchanged
 pub mod WordStores
 pub mod Words
+pub mod WordsWritten
 pub mod Writing
 pub mod Written
 pub mod BytesWritten

@@ -1,5 +1,5 @@
 pub mod BesideRegisters
-pub mod CodePages
+pub mod KeptPages
 pub mod Fills
 pub mod Propositions
 pub mod Reaching

@@ -1,36 +1,30 @@
-//! The page of code that a thread ran last, which is kept while it runs plain instructions.
+//! What a thread reaches by the pages that are kept while it runs plain instructions.
 
-ghost use Rattle.std.specs.Prelude.{ℕ, ◌≡◌, ◌/◌, ◌^◌, Some, Ok};
-ghost use Rattle.model.specs.Kernel.AddressSpaces.{content_of, vspace_of};
-ghost use Rattle.model.specs.Machine.ProgramMemory.{loaded};
+ghost use Rattle.std.specs.Prelude.{ℕ, ◌≡◌, IfSome, Some, Ok};
+ghost use Rattle.model.specs.Kernel.AddressSpaces.{content_of};
+ghost use Rattle.model.specs.Machine.ProgramMemory.{FitsSize, loaded, place_at};
 ghost use Rattle.model.specs.declared.instructions.Access.TheVariants.{Fetch};
 ghost use Rattle.model.specs.declared.instructions.AccessSize.TheVariants.{Word};
 ghost use Rattle.objects.specs.Lives.{state_in};
-ghost use Rattle.user_memory.specs.CodePages.{IsCode, IsPage};
+ghost use Rattle.user_memory.specs.KeptPages.{AreOwn};
+ghost use Rattle.user_memory.specs.Views.{IsFound};
 
 use crate::execution::word_at;
-use crate::keeping::{KeptPages, NO_PAGE};
+use crate::keeping::keep_page;
 use crate::known_words::KnownWords;
+use crate::page::Page;
+use crate::pages::Pages;
 use crate::roots::root_of;
+use crate::spaces::Space;
 use cnode_ops::Kernel;
-use model::{Access, MemoryFault};
+use model::{Access, AccessSize, MemoryFault};
 use packed_slots::WalkStore;
 
-/// Bytes of a page.
-const PAGE_SIZE: u32 = 0x1000;
-
-/// No memory has more bytes.
-const MOST_MEMORY: u32 = 0x100_0000;
-
-/// Where the code of a thread is: its root table, and one page by its number and the place of its first byte; and what its words
-/// spell, as far as that is known.
+/// What is known of a thread that runs: the pages that it reached lately, and what words of code spell.
 #[derive(Drop)]
 pub(crate) struct Code<'k> {
-    pub(crate) root: Option<u32>,
-    pub(crate) number: u32,
-    pub(crate) base: u32,
+    pub(crate) pages: Pages,
     pub(crate) known: &'k mut KnownWords,
-    pub(crate) kept: KeptPages,
 }
 
 /// The root table of a thread, with no page yet.
@@ -39,103 +33,112 @@ pub(crate) fn code_of<'k, S: WalkStore>(
     thread: u32,
     known: &'k mut KnownWords,
 ) -> Code<'k>
-    ensures { IsCode (state_in S.slots S.memory kernel.now) thread result.root result.number result.base }
+    ensures { AreOwn (state_in S.slots S.memory kernel.now) thread result.pages }
 {
-    Code {
-        root: root_of(kernel, thread),
-        number: NO_PAGE,
-        base: 0,
-        known,
-        kept: [NO_PAGE; 4],
-    }
+    let pages = Pages::under(root_of(kernel, thread));
+    Code { pages, known }
 }
 
-/// The word at an address in the page that is kept.
-#[inline]
-fn page_word<S: WalkStore>(
-    kernel: &Kernel<S>,
-    thread: u32,
-    code: &Code<'_>,
-    address: u32,
-) -> Option<u32>
-    requires { IsCode (state_in S.slots S.memory kernel.now) thread code.now.root code.now.number code.now.base }
-    ensures { (word : ℕ) → result ≡ Some word
-        → Ok word ≡ loaded (content_of (state_in S.slots S.memory kernel.now) thread) Fetch Word address }
-{
-    if address % 4 != 0 {
-        return None;
-    }
-    if address / PAGE_SIZE != code.number {
-        return None;
-    }
-    let live = &kernel.live;
-    Some(live.store.mem().read32(code.base + address % PAGE_SIZE))
-}
-
-/// The place of the first byte of an address's page, where its leaf is kept.
-fn base_of<S: WalkStore>(
-    kernel: &Kernel<S>,
-    thread: u32,
-    root: Option<u32>,
-    address: u32,
-) -> Option<u32>
-    requires root { root ≡ vspace_of (state_in S.slots S.memory kernel.now) thread }
-    ensures { (base : ℕ) → result ≡ Some base → IsPage (state_in S.slots S.memory kernel.now) thread (address / 2 ^ 12) base }
-{
-    let Some(table) = root else {
-        return None;
-    };
-    let live = &kernel.live;
-    match live.store.kept_place(table, address, Access::Fetch) {
-        Some(place) => {
-            if place < MOST_MEMORY && place >= address % PAGE_SIZE {
-                Some(place - address % PAGE_SIZE)
-            } else {
-                None
-            }
-        }
-        None => None,
-    }
-}
-
-/// The word that a thread runs next, in another page than the one that is kept. This page is kept then, if its leaf is.
+/// The place that an address has for an access of a thread, in another page than those that are kept. This page is kept then,
+/// if there is one.
 #[cold]
 #[inline(never)]
-fn fetch_elsewhere<S: WalkStore>(
+fn find_elsewhere<S: WalkStore>(
     kernel: &mut Kernel<S>,
     thread: u32,
-    code: &mut Code<'_>,
+    pages: &mut Pages,
     address: u32,
-) -> Result<u32, MemoryFault>
-    requires { IsCode (state_in S.slots S.memory kernel.old) thread code.old.root code.old.number code.old.base }
-    ensures value { result ≡ loaded (content_of (state_in S.slots S.memory kernel.old) thread) Fetch Word address }
+    access: Access,
+) -> Option<u32>
+    requires { AreOwn (state_in S.slots S.memory kernel.old) thread pages.old }
+    ensures found { IsFound (content_of (state_in S.slots S.memory kernel.old) thread) access address result }
     ensures unchanged { kernel.new ≡ kernel.old }
-    ensures code { IsCode (state_in S.slots S.memory kernel.new) thread code.new.root code.new.number code.new.base }
+    ensures pages { AreOwn (state_in S.slots S.memory kernel.old) thread pages.new }
 {
-    let root = code.root;
-    let Some(base) = base_of(kernel, thread, root, address) else {
-        return word_at(kernel, thread, root, address, Access::Fetch);
-    };
-    code.number = address / PAGE_SIZE;
-    code.base = base;
-    word_at(kernel, thread, root, address, Access::Fetch)
+    let root = pages.root;
+    let live = &mut kernel.live;
+    keep_page(&mut live.store, root, address, access, None);
+    let space = Space { kernel, root };
+    let place = space.kept_place(address, access)?;
+    if let Some(page) = Page::around(address, place) {
+        pages.keep(page, access);
+    }
+    Some(place)
 }
 
-/// The word that a thread runs next, by the page that is kept.
+/// The place that an address has for an access of a thread, by the pages that are kept. Where it has none it may have one by a
+/// walk.
+#[inline(always)]
+pub(crate) fn find<S: WalkStore>(
+    kernel: &mut Kernel<S>,
+    thread: u32,
+    pages: &mut Pages,
+    address: u32,
+    access: Access,
+) -> Option<u32>
+    requires { AreOwn (state_in S.slots S.memory kernel.old) thread pages.old }
+    ensures found { IsFound (content_of (state_in S.slots S.memory kernel.old) thread) access address result }
+    ensures unchanged { kernel.new ≡ kernel.old }
+    ensures pages { AreOwn (state_in S.slots S.memory kernel.old) thread pages.new }
+{
+    match pages.place(address, access) {
+        Some(place) => Some(place),
+        None => find_elsewhere(kernel, thread, pages, address, access),
+    }
+}
+
+/// The number at an address by the place of its first byte, where it lies in one page.
+#[inline(always)]
+pub(crate) fn number_at<S: WalkStore>(
+    kernel: &Kernel<S>,
+    thread: u32,
+    address: u32,
+    access: Access,
+    size: AccessSize,
+    place: u32,
+) -> Option<u32>
+    requires { Ok place ≡ place_at (content_of (state_in S.slots S.memory kernel.now) thread) access address }
+    ensures value { (number : ℕ) → result ≡ Some number
+        → Ok number ≡ loaded (content_of (state_in S.slots S.memory kernel.now) thread) access size address }
+    ensures range { IfSome result (FitsSize size) }
+{
+    let live = &kernel.live;
+    let memory = live.store.mem();
+    match size {
+        AccessSize::Word if address % 4 == 0 => Some(memory.read32(place)),
+        AccessSize::Halfword if address % 2 == 0 => {
+            let bytes = [memory.read8(place), memory.read8(place + 1)];
+            Some(u32::from(u16::from_le_bytes(bytes)))
+        }
+        AccessSize::Byte => Some(u32::from(memory.read8(place))),
+        _ => None,
+    }
+}
+
+/// The word that a thread runs next, by the pages that are kept.
 #[inline]
 pub(crate) fn fetch_paged<S: WalkStore>(
     kernel: &mut Kernel<S>,
     thread: u32,
-    code: &mut Code<'_>,
+    pages: &mut Pages,
     address: u32,
 ) -> Result<u32, MemoryFault>
-    requires { IsCode (state_in S.slots S.memory kernel.old) thread code.old.root code.old.number code.old.base }
+    requires { AreOwn (state_in S.slots S.memory kernel.old) thread pages.old }
     ensures value { result ≡ loaded (content_of (state_in S.slots S.memory kernel.old) thread) Fetch Word address }
     ensures unchanged { kernel.new ≡ kernel.old }
-    ensures code { IsCode (state_in S.slots S.memory kernel.new) thread code.new.root code.new.number code.new.base }
+    ensures pages { AreOwn (state_in S.slots S.memory kernel.old) thread pages.new }
 {
-    match page_word(kernel, thread, code, address) {
-        Some(word) => Ok(word),
-        None => fetch_elsewhere(kernel, thread, code, address),
+    if let Some(place) = find(kernel, thread, pages, address, Access::Fetch) {
+        if let Some(word) = number_at(
+            kernel,
+            thread,
+            address,
+            Access::Fetch,
+            AccessSize::Word,
+            place,
+        ) {
+            return Ok(word);
+        }
     }
+    word_at(kernel, thread, pages.root, address, Access::Fetch)
 }

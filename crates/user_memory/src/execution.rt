@@ -9,14 +9,17 @@ ghost use Rattle.model.specs.Kernel.Steps.{registers_of};
 ghost use Rattle.model.specs.Machine.Effects.{effect};
 ghost use Rattle.model.specs.Machine.Instructions.{IsInstr};
 ghost use Rattle.model.specs.Machine.ProgramMemory.{FitsSize, loaded, stored};
-ghost use Rattle.model.specs.declared.instructions.Access.TheVariants.{Fetch, Load};
+ghost use Rattle.model.specs.declared.instructions.Access.TheVariants.{Fetch, Load, Store};
 ghost use Rattle.model.specs.declared.instructions.AccessSize.TheVariants.{Word};
 ghost use Rattle.objects.specs.Lives.{state_in};
-ghost use Rattle.user_memory.specs.Views.{content_under};
+ghost use Rattle.user_memory.specs.KeptPages.{AreOwn};
+ghost use Rattle.user_memory.specs.Views.{IsOwnPlace, content_under};
 
-use crate::keeping::{KeptPages, keep_page, keep_reached};
+use crate::code_pages::{find, number_at};
+use crate::keeping::keep_page;
 use crate::known_words::ValidInstr;
-use crate::one_byte::{OneByte, reaches};
+use crate::one_byte::OneByte;
+use crate::pages::Pages;
 use crate::spaces::Space;
 use crate::thread_registers::ThreadRegisters;
 use crate::view::UserMemory;
@@ -107,55 +110,111 @@ fn walked_word<S: WalkStore>(
     ensures unchanged { kernel.new ≡ kernel.old }
 {
     let live = &mut kernel.live;
-    keep_page(&mut live.store, root, address, access);
+    keep_page(&mut live.store, root, address, access, None);
     let space = Space { kernel, root };
     space.word(address, access)
 }
 
-/// Runs an instruction over the memory of a thread.
-#[inline(never)]
-fn reach<S: WalkStore>(
+/// The number at an address, for an instruction of a thread that loads it, by the pages that are kept.
+///
+/// # Errors
+///
+/// The fault at the first byte of it that the thread may not read.
+#[inline]
+fn load_paged<S: WalkStore>(
     kernel: &mut Kernel<S>,
     thread: u32,
-    root: Option<u32>,
-    registers: &mut Regs,
-    known: ValidInstr,
-    kept: &mut KeptPages,
-) -> Exec
-    requires root { root ≡ vspace_of (state_in S.slots S.memory kernel.old) thread }
-    ensures outcome { result ≡ (effect registers.old (content_of (state_in S.slots S.memory kernel.old) thread) known.instruction).exec }
-    ensures registers { registers.new ≡ (effect registers.old (content_of (state_in S.slots S.memory kernel.old) thread) known.instruction).registers }
-    ensures state { state_in S.slots S.memory kernel.new
-        ≡ with_content (state_in S.slots S.memory kernel.old)
-        (effect registers.old (content_of (state_in S.slots S.memory kernel.old) thread) known.instruction).content }
+    pages: &mut Pages,
+    address: u32,
+    size: AccessSize,
+) -> Result<u32, MemoryFault>
+    requires { AreOwn (state_in S.slots S.memory kernel.old) thread pages.old }
+    ensures value { result ≡ loaded (content_of (state_in S.slots S.memory kernel.old) thread) Load size address }
+    ensures range { IfOk result (FitsSize size) }
+    ensures unchanged { kernel.new ≡ kernel.old }
+    ensures pages { AreOwn (state_in S.slots S.memory kernel.old) thread pages.new }
 {
-    let live = &mut kernel.live;
-    keep_reached(&mut live.store, root, registers, known, kept);
-    let mut memory = UserMemory { kernel, root };
-    exec(registers, known.instruction, &mut memory)
+    if let Some(place) = find(kernel, thread, pages, address, Access::Load) {
+        if let Some(number) = number_at(kernel, thread, address, Access::Load, size, place) {
+            return Ok(number);
+        }
+    }
+    load(kernel, thread, pages.root, address, size)
 }
 
-/// The same, where most instructions reach no memory: these run over a byte of their own.
+/// Stores the low bytes of a number at an address, for an instruction of a thread, by the pages that are kept.
+///
+/// # Errors
+///
+/// The fault at the first byte of it that the thread may not write. Nothing changes then.
+#[inline]
+fn store_paged<S: WalkStore>(
+    kernel: &mut Kernel<S>,
+    thread: u32,
+    pages: &mut Pages,
+    address: u32,
+    size: AccessSize,
+    value: u32,
+) -> Result<(), MemoryFault>
+    requires { AreOwn (state_in S.slots S.memory kernel.old) thread pages.old }
+    ensures content { let s = state_in S.slots S.memory kernel.old in
+        let now = content_under (state_in S.slots S.memory kernel.new) (vspace_of s thread) in
+        MatchResult
+        result
+        (λ _. stored (content_of s thread) size address value ≡ Ok now)
+        (λ fault. (stored (content_of s thread) size address value ≡ Err fault) × (now ≡ content_of s thread)) }
+    ensures state { let s = state_in S.slots S.memory kernel.old in
+        state_in S.slots S.memory kernel.new ≡ with_content s (content_under (state_in S.slots S.memory kernel.new) (vspace_of s thread)) }
+    ensures pages { AreOwn (state_in S.slots S.memory kernel.new) thread pages.new }
+{
+    let place = find(kernel, thread, pages, address, Access::Store);
+    store(kernel, thread, pages.root, address, size, value, place)
+}
+
+/// Runs an instruction over the memory of a thread, by the pages that are kept. What reaches no memory runs over a byte of its own.
 #[inline]
 pub(crate) fn run<S: WalkStore>(
     kernel: &mut Kernel<S>,
     thread: u32,
-    root: Option<u32>,
+    pages: &mut Pages,
     registers: &mut Regs,
     known: ValidInstr,
-    kept: &mut KeptPages,
 ) -> Exec
-    requires root { root ≡ vspace_of (state_in S.slots S.memory kernel.old) thread }
+    requires { AreOwn (state_in S.slots S.memory kernel.old) thread pages.old }
     ensures outcome { result ≡ (effect registers.old (content_of (state_in S.slots S.memory kernel.old) thread) known.instruction).exec }
     ensures registers { registers.new ≡ (effect registers.old (content_of (state_in S.slots S.memory kernel.old) thread) known.instruction).registers }
     ensures state { state_in S.slots S.memory kernel.new
         ≡ with_content (state_in S.slots S.memory kernel.old)
         (effect registers.old (content_of (state_in S.slots S.memory kernel.old) thread) known.instruction).content }
+    ensures pages { AreOwn (state_in S.slots S.memory kernel.new) thread pages.new }
 {
-    if reaches(known.instruction) {
-        reach(kernel, thread, root, registers, known, kept)
-    } else {
-        exec(registers, known.instruction, &mut OneByte::new())
+    match known.instruction {
+        Instr::Load {
+            op,
+            rd,
+            rs1,
+            offset,
+        } => {
+            let address = plus(registers.read(rs1), offset);
+            match load_paged(kernel, thread, pages, address, load_size(op)) {
+                Ok(number) => write_register(registers, rd, load_result(op, number)),
+                Err(fault) => Exec::Memory(fault.address, fault.access),
+            }
+        }
+        Instr::Store {
+            op,
+            rs1,
+            rs2,
+            offset,
+        } => {
+            let address = plus(registers.read(rs1), offset);
+            let value = registers.read(rs2);
+            match store_paged(kernel, thread, pages, address, store_size(op), value) {
+                Ok(()) => advance(registers),
+                Err(fault) => Exec::Memory(fault.address, fault.access),
+            }
+        }
+        _ => exec(registers, known.instruction, &mut OneByte::new()),
     }
 }
 
@@ -201,7 +260,7 @@ pub fn execute<S: WalkStore>(
         } => {
             let address = plus(kernel.live.register(thread, rs1), offset);
             let value = kernel.live.register(thread, rs2);
-            match store(kernel, thread, root, address, store_size(op), value) {
+            match store(kernel, thread, root, address, store_size(op), value, None) {
                 Ok(()) => {
                     let mut registers = ThreadRegisters { kernel, thread };
                     advance(&mut registers)
@@ -238,18 +297,20 @@ fn load<S: WalkStore>(
         AccessSize::Word => word_at(kernel, thread, root, address, Access::Load),
         _ => {
             let live = &mut kernel.live;
-            keep_page(&mut live.store, root, address, Access::Load);
+            keep_page(&mut live.store, root, address, Access::Load, None);
             let memory = UserMemory { kernel, root };
             memory.load(address, size)
         }
     }
 }
 
-/// Stores the low bytes of a number at an address, for an instruction of a thread.
+/// Stores the low bytes of a number at an address, for an instruction of a thread, by the place of the first one, where that
+/// is known.
 ///
 /// # Errors
 ///
 /// The fault at the first byte of it that the thread may not write. Nothing changes then.
+#[inline]
 fn store<S: WalkStore>(
     kernel: &mut Kernel<S>,
     thread: u32,
@@ -257,8 +318,9 @@ fn store<S: WalkStore>(
     address: u32,
     size: AccessSize,
     value: u32,
+    place: Option<u32>,
 ) -> Result<(), MemoryFault>
-    requires root { root ≡ vspace_of (state_in S.slots S.memory kernel.old) thread }
+    requires { IsOwnPlace (state_in S.slots S.memory kernel.old) thread root Store address place }
     ensures content { MatchResult
         result
         (λ _. stored (content_under (state_in S.slots S.memory kernel.old) root) size address value
@@ -269,7 +331,10 @@ fn store<S: WalkStore>(
         ≡ with_content (state_in S.slots S.memory kernel.old) (content_under (state_in S.slots S.memory kernel.new) root) }
 {
     let live = &mut kernel.live;
-    keep_page(&mut live.store, root, address, Access::Store);
+    keep_page(&mut live.store, root, address, Access::Store, place);
     let mut memory = UserMemory { kernel, root };
-    memory.store(address, size, value)
+    match place {
+        Some(_) => memory.store_found(address, size, value, place),
+        None => memory.store(address, size, value),
+    }
 }

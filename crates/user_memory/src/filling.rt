@@ -1,11 +1,10 @@
 //! Bytes that a frame starts with. seL4 Reference Manual, "System Bootstrapping".
 
-ghost use Rattle.std.specs.Prelude.{◌≡◌, ◌+◌, ◌^◌, ◌≤◌, ◌&&◌, None, Some, false, if◌then◌else◌, length, nat_le};
-ghost use Rattle.model.specs.Capabilities.Slots.{OutsideSlots};
+ghost use Rattle.std.specs.Prelude.{◌≡◌, ◌&&◌, None, Some, false, if◌then◌else◌, length, nat_le};
 ghost use Rattle.model.specs.Kernel.AddressSpaces.{page_size};
 ghost use Rattle.model.specs.Kernel.Setup.{fill, is_frame_object};
 ghost use Rattle.objects.specs.Lives.{state_in};
-ghost use Rattle.user_memory.specs.Fills.{AreWritten};
+ghost use Rattle.user_memory.specs.Fills.{AreWritten, IsBesideSlots};
 
 use cnode_ops::Kernel;
 use slots::SlotStore;
@@ -15,9 +14,7 @@ const PAGE_SIZE: usize = 4096;
 
 /// Writes bytes into memory from an offset on, where no slot is open.
 pub(crate) fn write_bytes<S: SlotStore>(store: &mut S, offset: u32, bytes: &[u8])
-    requires within { offset + length bytes.now ≤ length (S.memory store.old) }
-    requires most { length (S.memory store.old) ≤ 2 ^ 24 }
-    requires outside { OutsideSlots (S.slots store.old) offset (length bytes.now) }
+    requires { IsBesideSlots (S.slots store.old) (S.memory store.old) offset (length bytes.now) }
     ensures slots { S.slots store.new ≡ S.slots store.old }
     ensures bytes { AreWritten (S.memory store.old) (S.memory store.new) offset (length bytes.now) bytes.now }
 {

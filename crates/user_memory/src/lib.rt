@@ -10,6 +10,8 @@ mod keeping;
 mod known_words;
 mod labels;
 mod one_byte;
+mod page;
+mod pages;
 mod plain_runs;
 mod roots;
 mod spaces;

@@ -1,9 +1,8 @@
 //! Memory for instructions that reach none.
 
-ghost use Rattle.user_memory.specs.Reaching.{one_byte, reaches};
-ghost use Rattle.std.specs.Prelude.{◌≡◌};
+ghost use Rattle.user_memory.specs.Reaching.{one_byte};
 
-use model::{Access, Instr, MemoryFault};
+use model::{Access, MemoryFault};
 use rv32_exec::View;
 
 /// Memory of one byte, at the address 0.
@@ -42,12 +41,4 @@ impl View for OneByte {
     fn set_byte(&mut self, place: u32, value: u8) {
         self.bytes[place as usize] = value;
     }
-}
-
-/// Whether an instruction reaches memory: a load or a store.
-#[inline]
-pub(crate) fn reaches(instruction: Instr) -> bool
-    ensures { result ≡ reaches instruction }
-{
-    matches!(instruction, Instr::Load { .. } | Instr::Store { .. })
 }

@@ -7,7 +7,7 @@ ghost use Rattle.model.specs.Kernel.Messages.{with_registers};
 ghost use Rattle.model.specs.Kernel.Scheduling.{current};
 ghost use Rattle.model.specs.Kernel.Steps.{runs, state_after, step, trace};
 ghost use Rattle.objects.specs.Lives.{state_in};
-ghost use Rattle.user_memory.specs.CodePages.{IsUnderWay};
+ghost use Rattle.user_memory.specs.KeptPages.{IsUnderWay};
 ghost use Rattle.user_memory.specs.Runs.{IsNext, comes_of, plain_label, steps};
 
 use crate::code_pages::{Code, code_of, fetch_paged};
@@ -45,8 +45,8 @@ fn step_plain<S: WalkStore>(
     code: &mut Code<'_>,
     registers: &mut Regs,
 ) -> Exec
-    requires { IsUnderWay (state_in S.slots S.memory kernel.old) thread code.old.root code.old.number code.old.base }
-    ensures ready { IsUnderWay (state_in S.slots S.memory kernel.new) thread code.new.root code.new.number code.new.base }
+    requires { IsUnderWay (state_in S.slots S.memory kernel.old) thread code.old.pages }
+    ensures ready { IsUnderWay (state_in S.slots S.memory kernel.new) thread code.new.pages }
     ensures state { result ≡ Exec.Next → with_registers (state_in S.slots S.memory kernel.new) thread registers.new
         ≡ (step (with_registers (state_in S.slots S.memory kernel.old) thread registers.old) Event.Step).0 }
     ensures label { result ≡ Exec.Next → (step (with_registers (state_in S.slots S.memory kernel.old) thread registers.old) Event.Step).1
@@ -57,9 +57,9 @@ fn step_plain<S: WalkStore>(
         ≡ comes_of (with_registers (state_in S.slots S.memory kernel.old) thread registers.old) thread result }
 {
     let pc = registers.pc();
-    match fetch_paged(kernel, thread, code, pc) {
+    match fetch_paged(kernel, thread, &mut code.pages, pc) {
         Ok(word) => match code.known.decode(pc, word) {
-            Some(known) => run(kernel, thread, code.root, registers, known, &mut code.kept),
+            Some(known) => run(kernel, thread, &mut code.pages, registers, known),
             None => Exec::Trap(Cause::Illegal),
         },
         Err(fault) => Exec::Memory(fault.address, fault.access),
@@ -76,9 +76,9 @@ fn run_on<S: WalkStore, L: Labels>(
     most: u32,
     labels: &mut L,
 ) -> (u32, Option<Exec>)
-    requires { IsUnderWay (state_in S.slots S.memory kernel.old) thread code.old.root code.old.number code.old.base }
+    requires { IsUnderWay (state_in S.slots S.memory kernel.old) thread code.old.pages }
     ensures few { result.0 ≤ most }
-    ensures ready { IsUnderWay (state_in S.slots S.memory kernel.new) thread code.new.root code.new.number code.new.base }
+    ensures ready { IsUnderWay (state_in S.slots S.memory kernel.new) thread code.new.pages }
     ensures state { with_registers (state_in S.slots S.memory kernel.new) thread registers.new
         ≡ state_after (with_registers (state_in S.slots S.memory kernel.old) thread registers.old) (steps result.0) }
     ensures labels { L.seen labels.new

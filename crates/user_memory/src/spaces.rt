@@ -4,7 +4,7 @@ ghost use Rattle.std.specs.Prelude.{ℕ, ◌≡◌, ◌<◌, ◌^◌, IfSome, So
 ghost use Rattle.model.specs.declared.instructions.AccessSize.TheVariants.{Halfword, Word};
 ghost use Rattle.model.specs.Machine.ProgramMemory.{IsNamed, loaded, place_at};
 ghost use Rattle.objects.specs.Lives.{state_in};
-ghost use Rattle.user_memory.specs.Views.{IsUsable, content_under};
+ghost use Rattle.user_memory.specs.Views.{IsFound, IsUsable, content_under};
 
 use cnode_ops::Kernel;
 use model::{Access, MemoryFault};
@@ -25,8 +25,7 @@ impl<S: WalkStore> Space<'_, S> {
     /// The place in memory that an address names for an access, where the leaf of its page is kept and gives one. Else
     /// there may be one or not.
     pub(crate) fn kept_place(&self, address: u32, access: Access) -> Option<u32>
-        ensures { (place : ℕ) → result ≡ Some place
-            → Ok place ≡ place_at (content_under (state_in S.slots S.memory self.now.kernel.now) self.now.root) access address }
+        ensures { IsFound (content_under (state_in S.slots S.memory self.now.kernel.now) self.now.root) access address result }
     {
         match self.root {
             Some(root) => {

@@ -1,11 +1,11 @@
 //! Memory as the instructions of a thread see it.
 
-ghost use Rattle.std.specs.Prelude.{◌≡◌, ◌%◌, ◌<◌, ◌^◌, MatchResult, Ok, Err};
-ghost use Rattle.model.specs.Machine.ProgramMemory.{place_at, stored};
+ghost use Rattle.std.specs.Prelude.{◌≡◌, MatchResult, Ok, Err};
+ghost use Rattle.model.specs.Machine.ProgramMemory.{stored};
 ghost use Rattle.model.specs.declared.instructions.Access.TheVariants.{Store};
 ghost use Rattle.model.specs.declared.instructions.AccessSize.TheVariants.{Halfword, Word};
 ghost use Rattle.objects.specs.Lives.{state_in};
-ghost use Rattle.user_memory.specs.Views.{Beside, IsUsable, beside_of, content_under};
+ghost use Rattle.user_memory.specs.Views.{Beside, IsFound, IsUsable, IsWordAt, beside_of, content_under};
 
 use crate::spaces::{MOST_MEMORY, Space};
 use cnode_ops::Kernel;
@@ -35,9 +35,7 @@ impl<S: WalkStore> UserMemory<'_, S> {
 
     /// Puts the four bytes of a number at a multiple of 4 whose place is known.
     fn put_word(&mut self, address: u32, place: u32, value: u32)
-        requires aligned { address % 4 ≡ 0 }
-        requires named { place_at (content_under (state_in S.slots S.memory self.old.kernel.now) self.old.root) Store address ≡ Ok place }
-        requires near { place < 2 ^ 24 }
+        requires { IsWordAt (content_under (state_in S.slots S.memory self.old.kernel.now) self.old.root) address place }
         ensures content { stored (content_under (state_in S.slots S.memory self.old.kernel.now) self.old.root) Word address value
             ≡ Ok (content_under (state_in S.slots S.memory self.new.kernel.now) self.new.root) }
         ensures rest { beside_of self.new.kernel.now.tables (S.slots self.new.kernel.now.store)
@@ -45,17 +43,21 @@ impl<S: WalkStore> UserMemory<'_, S> {
             ≡ beside_of self.old.kernel.now.tables (S.slots self.old.kernel.now.store)
             (S.memory self.old.kernel.now.store) self.old.root self.old.kernel.ghost_name }
     {
-        let bytes = value.to_le_bytes();
-        self.set_byte(place, bytes[0]);
-        self.set_byte(place + 1, bytes[1]);
-        self.set_byte(place + 2, bytes[2]);
-        self.set_byte(place + 3, bytes[3]);
+        let kernel = &mut *self.kernel;
+        let live = &mut kernel.live;
+        live.store.write32(place, value);
     }
 }
 
 impl<S: WalkStore> UserMemory<'_, S> {
-    /// Stores the low two bytes of a number, at a multiple of 2 whose page is kept by one look.
-    fn store_halfword(&mut self, address: u32, value: u32) -> Result<(), MemoryFault>
+    /// Stores the low two bytes of a number, at a multiple of 2 by its place, where that is known.
+    fn store_halfword(
+        &mut self,
+        address: u32,
+        value: u32,
+        place: Option<u32>,
+    ) -> Result<(), MemoryFault>
+        requires { IsFound (content_under (state_in S.slots S.memory self.old.kernel.now) self.old.root) Store address place }
         ensures content { MatchResult
             result
             (λ _. stored (content_under (state_in S.slots S.memory self.old.kernel.now) self.old.root) Halfword address value
@@ -71,7 +73,7 @@ impl<S: WalkStore> UserMemory<'_, S> {
         if address % 2 != 0 {
             return self.set_number(address, AccessSize::Halfword, value);
         }
-        match self.space().kept_place(address, Access::Store) {
+        match place {
             Some(place) if place < MOST_MEMORY => {
                 let bytes = value.to_le_bytes();
                 self.set_byte(place, bytes[0]);
@@ -79,6 +81,49 @@ impl<S: WalkStore> UserMemory<'_, S> {
                 Ok(())
             }
             _ => self.set_number(address, AccessSize::Halfword, value),
+        }
+    }
+
+    /// Stores the low bytes of a number at an address, by the place of the first one, where that is known.
+    #[inline(always)]
+    pub(crate) fn store_found(
+        &mut self,
+        address: u32,
+        size: AccessSize,
+        value: u32,
+        place: Option<u32>,
+    ) -> Result<(), MemoryFault>
+        requires { IsFound (content_under (state_in S.slots S.memory self.old.kernel.now) self.old.root) Store address place }
+        ensures content { MatchResult
+            result
+            (λ _. stored (content_under (state_in S.slots S.memory self.old.kernel.now) self.old.root) size address value
+            ≡ Ok (content_under (state_in S.slots S.memory self.new.kernel.now) self.new.root))
+            (λ fault. (stored (content_under (state_in S.slots S.memory self.old.kernel.now) self.old.root) size address value ≡ Err fault)
+            × (content_under (state_in S.slots S.memory self.new.kernel.now) self.new.root
+            ≡ content_under (state_in S.slots S.memory self.old.kernel.now) self.old.root)) }
+        ensures rest { beside_of self.new.kernel.now.tables (S.slots self.new.kernel.now.store)
+            (S.memory self.new.kernel.now.store) self.new.root self.new.kernel.ghost_name
+            ≡ beside_of self.old.kernel.now.tables (S.slots self.old.kernel.now.store)
+            (S.memory self.old.kernel.now.store) self.old.root self.old.kernel.ghost_name }
+    {
+        match size {
+            AccessSize::Word if address % 4 == 0 => match place {
+                Some(place) => {
+                    self.put_word(address, place, value);
+                    Ok(())
+                }
+                None => self.set_number(address, size, value),
+            },
+            AccessSize::Halfword => self.store_halfword(address, value, place),
+            AccessSize::Byte => match place {
+                Some(place) => {
+                    let bytes = value.to_le_bytes();
+                    self.set_byte(place, bytes[0]);
+                    Ok(())
+                }
+                None => self.set_number(address, size, value),
+            },
+            _ => self.set_number(address, size, value),
         }
     }
 }
@@ -116,20 +161,8 @@ impl<S: WalkStore> View for UserMemory<'_, S> {
         live.store.write8(place, value);
     }
 
-    #[inline(always)]
     fn store(&mut self, address: u32, size: AccessSize, value: u32) -> Result<(), MemoryFault> {
-        match size {
-            AccessSize::Word if address % 4 == 0 => {
-                match self.space().kept_place(address, Access::Store) {
-                    Some(place) if place < MOST_MEMORY => {
-                        self.put_word(address, place, value);
-                        Ok(())
-                    }
-                    _ => self.set_number(address, size, value),
-                }
-            }
-            AccessSize::Halfword => self.store_halfword(address, value),
-            _ => self.set_number(address, size, value),
-        }
+        let place = self.space().kept_place(address, Access::Store);
+        self.store_found(address, size, value, place)
     }
 }

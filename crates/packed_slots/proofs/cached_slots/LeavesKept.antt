@@ -1,9 +1,9 @@
 -- What is kept once the leaf of a page is, and what where nothing is.
-use Rattle.std.proofs.Common.{ℕ, ◌≡◌, ◌∙◌, ◌%◌, ◌⊎◌, inl, inr, Option, Some, None, List, length, replicate, slice_index_or, slice_set, sym, ap, arith}
+use Rattle.std.proofs.Common.{ℕ, ◌≡◌, ◌∙◌, ◌⊎◌, inl, inr, Option, Some, None, List, length, replicate, slice_index_or, slice_set, sym, ap, arith}
 use Rattle.std.proofs.lemmas.Bool.{cases_lt}
 use Rattle.std.proofs.lemmas.Bool.Decides.{eqb_tells}
 use Rattle.std.proofs.lemmas.List.{get_or_past, get_or-replicate, get_or-set_other, get_or-set_same, length-replicate, length-set}
-use Rattle.packed_slots.specs.cached_slots.KeptLeaves.{AreAmong, IsLeafMore, Leaves, with_leaf}
+use Rattle.packed_slots.specs.cached_slots.KeptLeaves.{AreAmong, IsLeafMore, Leaves, place_for, with_leaf}
 use Rattle.packed_slots.specs.declared.cached_slots.caches.TlbEntry.{TlbEntry}
 
 none-some : (kept : TlbEntry) {A : Type 0} → None ≡ Some kept → A
@@ -30,7 +30,7 @@ module _ (entries : List (Option TlbEntry)) (root page leaf place : ℕ) (kept :
   more = record { root = root; page = page; leaf = leaf }
 
   abbrev at : ℕ
-  at = page % 64
+  at = place_for root page
 
   own-leaf : Some more ≡ Some kept → IsLeafMore root page (Some leaf) kept
   own-leaf is =

@@ -22,10 +22,14 @@ leaf_of memory root page = do
 pub record AreAmong (leaves : Leaves) (entries : List (Option TlbEntry)) : Type 0 where
   pub each : (place : ℕ) (kept : TlbEntry) → slice_index_or entries place None ≡ Some kept → leaves kept.root kept.page ≡ Some kept.leaf
 
--- the leaf of a page, if there is one, is kept in the place that the low 6 bits of the page's number name
+-- the place in which the leaf of a page under a root table is kept
+abbrev pub place_for : ℕ → ℕ → ℕ
+place_for root page = (page % 64 + root / 2 ^ 12 % 64 * 13) % 64
+
+-- the leaf of a page, if there is one, is kept in its place
 abbrev pub with_leaf : List (Option TlbEntry) → ℕ → ℕ → Option ℕ → List (Option TlbEntry)
 with_leaf entries root page None = entries
-with_leaf entries root page (Some leaf) = slice_set entries (page % 64) (Some (record { root = root; page = page; leaf = leaf }))
+with_leaf entries root page (Some leaf) = slice_set entries (place_for root page) (Some (record { root = root; page = page; leaf = leaf }))
 
 -- an entry keeps the leaf that is found for a page
 pub record IsLeafMore (root page : ℕ) (found : Option ℕ) (kept : TlbEntry) : Type 0 where

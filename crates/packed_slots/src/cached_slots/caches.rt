@@ -3,7 +3,7 @@
 ghost use Rattle.std.specs.Prelude.{ℕ, ◌≡◌, ◌<◌, ◌/◌, ◌%◌, ◌^◌, Option, Some, None, option_map, length, replicate, slice_index_or, slice_set};
 ghost use Rattle.std.specs.Option.{ok_or};
 ghost use Rattle.model.specs.Machine.Sv32.{leaf_place, page_fault, walk};
-ghost use Rattle.packed_slots.specs.cached_slots.KeptLeaves.{AreAmong, Leaves, leaf_of, with_leaf};
+ghost use Rattle.packed_slots.specs.cached_slots.KeptLeaves.{AreAmong, Leaves, leaf_of, place_for, with_leaf};
 
 use model::{Access, PageFault};
 use pmem::Mem;
@@ -19,8 +19,22 @@ const PAGE_SIZE: u64 = 0x1000;
 /// Entries of a page table.
 const TABLE_ENTRIES: u32 = 0x400;
 
+/// Bytes of a page table.
+const TABLE_SIZE: u32 = 0x1000;
+
 /// How many leaves are kept at most.
 const PLACES: u32 = 64;
+
+/// How far the places of one page under two root tables are from one another, where one root table comes after the other.
+const ROOT_STEP: u32 = 13;
+
+/// The place for the leaf of a page under a root table. Pages one after the other have places one after the other; programs
+/// with the same addresses and root tables of their own have others.
+fn place_for(root: u32, page: u32) -> u32
+    ensures { result ≡ place_for root page }
+{
+    (page % PLACES + root / TABLE_SIZE % PLACES * ROOT_STEP) % PLACES
+}
 
 /// The leaf of the last level that a walk to a page ends at: the offset of the root table, the number of the page, and the leaf.
 #[derive(Clone, Copy)]
@@ -30,8 +44,8 @@ pub struct TlbEntry {
     pub leaf: u32,
 }
 
-/// 64 leaves at most, each in the place that the low 6 bits of its page's number name. Page faults and leaves of
-/// great pages are not kept. A clause sees the list of the 64 places.
+/// 64 leaves at most, each in the place that its root table and the number of its page name. Page faults and leaves of great
+/// pages are not kept. A clause sees the list of the 64 places.
 #[derive(Drop)]
 pub struct Tlb {
     entries: [Option<TlbEntry>; 64],
@@ -117,11 +131,11 @@ impl Tlb {
 
     /// The entry that is kept of a page under a root.
     fn find(&self, root: u32, page: u32) -> Option<TlbEntry>
-        ensures kept { (kept : _) → result ≡ Some kept → slice_index_or self.now (page % 64) None ≡ Some kept }
+        ensures kept { (kept : _) → result ≡ Some kept → slice_index_or self.now (place_for root page) None ≡ Some kept }
         ensures root { (kept : _) → result ≡ Some kept → kept.root ≡ root }
         ensures page { (kept : _) → result ≡ Some kept → kept.page ≡ page }
     {
-        let held = self.entries[(page % PLACES) as usize];
+        let held = self.entries[place_for(root, page) as usize];
         match held {
             Some(kept) if kept.root == root && kept.page == page => Some(kept),
             _ => None,
@@ -130,9 +144,9 @@ impl Tlb {
 
     /// Puts an entry into the place of its page.
     fn put(&mut self, kept: TlbEntry)
-        ensures { self.new ≡ slice_set self.old (kept.page % 64) (Some kept) }
+        ensures { self.new ≡ slice_set self.old (place_for kept.root kept.page) (Some kept) }
     {
-        self.entries[(kept.page % PLACES) as usize] = Some(kept);
+        self.entries[place_for(kept.root, kept.page) as usize] = Some(kept);
     }
 
     /// Keeps the leaf of the page of an address, if it has one under the root table at the offset `root`. Asks that

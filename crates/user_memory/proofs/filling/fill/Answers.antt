@@ -15,36 +15,24 @@ returns-then-not-may_fill-clause-outcome g c =
     not-filled (state_in g.S.SlotMap.slots g.S.SlotStore.memory c.args.kernel.now) c.args.offset c.args.bytes.now
     (sym c.may_fill.ensures ∙ c.if-not-may_fill.true)
 
-pub write_bytes-requires-clause-within : goal.write_bytes-requires-clause-within
-write_bytes-requires-clause-within g c =
-    let whole = whole-of g.S.SlotMap.slots g.S.SlotStore.memory c.live.inside.objects c.live.inside.store c.kernel.invariant c.live.view_is c.live.invariant in
-    let of_kernel = c.live.view_is ∙ c.kernel.view_is in
-    let may = subst (λ k. may_fill (state_in g.S.SlotMap.slots g.S.SlotStore.memory k) c.args.offset (length c.args.bytes.now) ≡ true) (sym of_kernel)
-    (sym c.may_fill.ensures ∙ c.if-not-may_fill.false) in
-    fill-within (state_of c.live.inside.objects (g.S.SlotMap.slots c.live.inside.store) (g.S.SlotStore.memory c.live.inside.store))
-    (g.S.SlotStore.memory c.live.inside.store)
-    c.args.offset (length c.args.bytes.now) whole.agrees whole.sound may
-
-pub write_bytes-requires-clause-most : goal.write_bytes-requires-clause-most
-write_bytes-requires-clause-most g c =
-    let whole = whole-of g.S.SlotMap.slots g.S.SlotStore.memory c.live.inside.objects c.live.inside.store c.kernel.invariant c.live.view_is c.live.invariant in
-    let of_kernel = c.live.view_is ∙ c.kernel.view_is in
-    let may = subst (λ k. may_fill (state_in g.S.SlotMap.slots g.S.SlotStore.memory k) c.args.offset (length c.args.bytes.now) ≡ true) (sym of_kernel)
-    (sym c.may_fill.ensures ∙ c.if-not-may_fill.false) in
-    fill-most (state_of c.live.inside.objects (g.S.SlotMap.slots c.live.inside.store) (g.S.SlotStore.memory c.live.inside.store))
-    (g.S.SlotStore.memory c.live.inside.store)
-    c.args.offset (length c.args.bytes.now) whole.agrees whole.sound may
-
-pub write_bytes-requires-clause-outside : goal.write_bytes-requires-clause-outside
+pub write_bytes-requires : goal.write_bytes-requires
 unfolding state_of
-write_bytes-requires-clause-outside g c =
+write_bytes-requires g c =
     let whole = whole-of g.S.SlotMap.slots g.S.SlotStore.memory c.live.inside.objects c.live.inside.store c.kernel.invariant c.live.view_is c.live.invariant in
     let of_kernel = c.live.view_is ∙ c.kernel.view_is in
     let may = subst (λ k. may_fill (state_in g.S.SlotMap.slots g.S.SlotStore.memory k) c.args.offset (length c.args.bytes.now) ≡ true) (sym of_kernel)
     (sym c.may_fill.ensures ∙ c.if-not-may_fill.false) in
-    fill-outside (state_of c.live.inside.objects (g.S.SlotMap.slots c.live.inside.store) (g.S.SlotStore.memory c.live.inside.store))
-    (g.S.SlotStore.memory c.live.inside.store)
-    c.args.offset (length c.args.bytes.now) whole.agrees whole.sound may
+    record {
+      within = fill-within (state_of c.live.inside.objects (g.S.SlotMap.slots c.live.inside.store) (g.S.SlotStore.memory c.live.inside.store))
+          (g.S.SlotStore.memory c.live.inside.store)
+          c.args.offset (length c.args.bytes.now) whole.agrees whole.sound may;
+      most = fill-most (state_of c.live.inside.objects (g.S.SlotMap.slots c.live.inside.store) (g.S.SlotStore.memory c.live.inside.store))
+          (g.S.SlotStore.memory c.live.inside.store)
+          c.args.offset (length c.args.bytes.now) whole.agrees whole.sound may;
+      outside = fill-outside (state_of c.live.inside.objects (g.S.SlotMap.slots c.live.inside.store) (g.S.SlotStore.memory c.live.inside.store))
+          (g.S.SlotStore.memory c.live.inside.store)
+          c.args.offset (length c.args.bytes.now) whole.agrees whole.sound may;
+    }
 
 pub returns-clause-outcome : goal.returns-clause-outcome
 returns-clause-outcome g c =

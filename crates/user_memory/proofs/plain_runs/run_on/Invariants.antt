@@ -4,13 +4,13 @@ use Rattle.std.specs.List.{flat_map}
 use Rattle.model.specs.Kernel.Messages.{with_registers}
 use Rattle.model.specs.Kernel.Steps.{state_after, trace}
 use Rattle.objects.specs.Lives.{state_in}
-use Rattle.user_memory.specs.CodePages.{IsUnderWay}
+use Rattle.user_memory.specs.KeptPages.{IsUnderWay}
 use Rattle.user_memory.specs.Runs.{steps}
 use Rattle.user_memory.proofs.plain_runs.run_on.Given as goal
 
 abbrev pub invariant-steps : goal.invariant-steps
 invariant-steps g l = record {
-  ready : IsUnderWay (state_in g.S.SlotMap.slots g.S.SlotStore.memory l.kernel) l.fn.thread l.code.root l.code.number l.code.base;
+  ready : IsUnderWay (state_in g.S.SlotMap.slots g.S.SlotStore.memory l.kernel) l.fn.thread l.code.pages;
   state : with_registers (state_in g.S.SlotMap.slots g.S.SlotStore.memory l.kernel) l.fn.thread l.registers
       ≡ state_after (with_registers (state_in g.S.SlotMap.slots g.S.SlotStore.memory l.fn.kernel) l.fn.thread l.fn.registers) (steps l.done);
   labels : g.L.Labels.seen l.labels

@@ -29,7 +29,7 @@ run_on-done-requires g c =
     let s : State = state_in g.S.SlotMap.slots g.S.SlotStore.memory c.args.kernel.now in
     let sound = subst (λ k. IsSound (state_in g.S.SlotMap.slots g.S.SlotStore.memory k)) c.kernel.view_is c.kernel.invariant.sound in
     let there = (current-runs s sound.threads c.args.thread c.requires).kind in
-    record { near = thread-near s c.args.thread sound there; there = there; is_current = c.requires; code = c.code_of-code.ensures }
+    record { near = thread-near s c.args.thread sound there; there = there; is_current = c.requires; own = c.code_of-code.ensures }
 
 pub invariant_of-kernel : goal.invariant_of-kernel
 invariant_of-kernel g c =

@@ -11,7 +11,7 @@ use Rattle.model.specs.declared.instructions.Exec.{Exec}
 use Rattle.model.specs.declared.instructions.Instr.{Instr}
 use Rattle.objects.specs.Lives.{state_in}
 use Rattle.user_memory.proofs.KeptSteps.{comes-by, comes-illegal, comes-missed, step-label, step-state, still}
-use Rattle.user_memory.proofs.PagePlaces.{fetched-ready, stays-ready}
+use Rattle.user_memory.proofs.PagePlaces.{stays-ready}
 use Rattle.user_memory.specs.Runs.{comes_of}
 use Rattle.user_memory.specs.declared.known_words.ValidInstr.{ValidInstr}
 use Rattle.user_memory.proofs.plain_runs.step_plain.Goals as goal
@@ -25,7 +25,6 @@ returns-in-Some g c =
     let t = c.args.thread in
     let r = c.args.registers.now in
     let i = c.in-Some.known.instruction in
-    let code = c.fetch_paged.new.code in
     let now = state_in g.S.SlotMap.slots g.S.SlotStore.memory c.run.new.kernel in
     let same = c.fetch_paged.ensures.unchanged in
     let goes = subst (λ k. let u = state_in g.S.SlotMap.slots g.S.SlotStore.memory k in now ≡ with_content u (effect r (content_of u t) i).content)
@@ -37,8 +36,7 @@ returns-in-Some g c =
     let fetched = sym c.in-Ok.is ∙ c.fetch_paged.ensures.value ∙ ap (λ (address : ℕ). loaded (content_of s t) Fetch Word address) c.pc-pc.ensures in
     let decodes = sym (ap spelled c.in-Some.is) ∙ c.decode.ensures in
     record {
-      ready = stays-ready s now t code.root code.number code.base (effect r (content_of s t) i).content goes
-          (fetched-ready g.S.SlotMap.slots g.S.SlotStore.memory t code.root code.number code.base same c.requires c.fetch_paged.ensures.code);
+      ready = stays-ready s now t c.args.code.now.pages c.run.new.pages (effect r (content_of s t) i).content goes c.requires c.run.ensures.pages;
       state = λ yes. step-state s t r i now c.run.new.registers goes sets c.requires.is_current c.in-Ok.word fetched decodes (sym told ∙ yes);
       label = λ yes. step-label s t r i now c.run.new.registers goes sets c.requires.is_current c.in-Ok.word fetched decodes (sym told ∙ yes);
       unchanged = λ no. still s t r i now c.run.new.registers goes sets (λ is. no (told ∙ is));

@@ -14,33 +14,21 @@ returns-then-not-is_word_of_frame-clause-state g c =
     nothing-written (state_in g.S.SlotMap.slots g.S.SlotStore.memory c.args.kernel.now) c.args.place c.args.word
     (sym c.is_word_of_frame.ensures ∙ c.if-not-is_word_of_frame.true)
 
-pub write_bytes-requires-clause-within : goal.write_bytes-requires-clause-within
-write_bytes-requires-clause-within g c =
-    let whole = whole-of g.S.SlotMap.slots g.S.SlotStore.memory c.live.inside.objects c.live.inside.store c.kernel.invariant c.live.view_is c.live.invariant in
-    let of_kernel = c.live.view_is ∙ c.kernel.view_is in
-    let may = subst (λ k. is_word_of_frame (state_in g.S.SlotMap.slots g.S.SlotStore.memory k) c.args.place ≡ true) (sym of_kernel)
-    (sym c.is_word_of_frame.ensures ∙ c.if-not-is_word_of_frame.false) in
-    word-within (state_of c.live.inside.objects (g.S.SlotMap.slots c.live.inside.store) (g.S.SlotStore.memory c.live.inside.store))
-    (g.S.SlotStore.memory c.live.inside.store) c.to_le_bytes.result c.args.place c.args.word c.to_le_bytes.ensures whole.agrees whole.sound may
-
-pub write_bytes-requires-clause-most : goal.write_bytes-requires-clause-most
-write_bytes-requires-clause-most g c =
-    let whole = whole-of g.S.SlotMap.slots g.S.SlotStore.memory c.live.inside.objects c.live.inside.store c.kernel.invariant c.live.view_is c.live.invariant in
-    let of_kernel = c.live.view_is ∙ c.kernel.view_is in
-    let may = subst (λ k. is_word_of_frame (state_in g.S.SlotMap.slots g.S.SlotStore.memory k) c.args.place ≡ true) (sym of_kernel)
-    (sym c.is_word_of_frame.ensures ∙ c.if-not-is_word_of_frame.false) in
-    word-most (state_of c.live.inside.objects (g.S.SlotMap.slots c.live.inside.store) (g.S.SlotStore.memory c.live.inside.store))
-    (g.S.SlotStore.memory c.live.inside.store) c.to_le_bytes.result c.args.place c.args.word c.to_le_bytes.ensures whole.agrees whole.sound may
-
-pub write_bytes-requires-clause-outside : goal.write_bytes-requires-clause-outside
+pub write_bytes-requires : goal.write_bytes-requires
 unfolding state_of
-write_bytes-requires-clause-outside g c =
+write_bytes-requires g c =
     let whole = whole-of g.S.SlotMap.slots g.S.SlotStore.memory c.live.inside.objects c.live.inside.store c.kernel.invariant c.live.view_is c.live.invariant in
     let of_kernel = c.live.view_is ∙ c.kernel.view_is in
     let may = subst (λ k. is_word_of_frame (state_in g.S.SlotMap.slots g.S.SlotStore.memory k) c.args.place ≡ true) (sym of_kernel)
     (sym c.is_word_of_frame.ensures ∙ c.if-not-is_word_of_frame.false) in
-    word-outside (state_of c.live.inside.objects (g.S.SlotMap.slots c.live.inside.store) (g.S.SlotStore.memory c.live.inside.store))
-    (g.S.SlotStore.memory c.live.inside.store) c.to_le_bytes.result c.args.place c.args.word c.to_le_bytes.ensures whole.agrees whole.sound may
+    record {
+      within = word-within (state_of c.live.inside.objects (g.S.SlotMap.slots c.live.inside.store) (g.S.SlotStore.memory c.live.inside.store))
+          (g.S.SlotStore.memory c.live.inside.store) c.to_le_bytes.result c.args.place c.args.word c.to_le_bytes.ensures whole.agrees whole.sound may;
+      most = word-most (state_of c.live.inside.objects (g.S.SlotMap.slots c.live.inside.store) (g.S.SlotStore.memory c.live.inside.store))
+          (g.S.SlotStore.memory c.live.inside.store) c.to_le_bytes.result c.args.place c.args.word c.to_le_bytes.ensures whole.agrees whole.sound may;
+      outside = word-outside (state_of c.live.inside.objects (g.S.SlotMap.slots c.live.inside.store) (g.S.SlotStore.memory c.live.inside.store))
+          (g.S.SlotStore.memory c.live.inside.store) c.to_le_bytes.result c.args.place c.args.word c.to_le_bytes.ensures whole.agrees whole.sound may;
+    }
 
 pub returns-clause-state : goal.returns-clause-state
 returns-clause-state g c =

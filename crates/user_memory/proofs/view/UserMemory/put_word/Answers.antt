@@ -1,77 +1,126 @@
--- The places of the four bytes stay where they are while bytes are put there.
-use Rattle.std.proofs.Common.{◌∙◌, ◌+◌, Ok, refl, sym, ap, arith, subst}
-use Rattle.std.specs.Prelude.{slice_index}
-use Rattle.model.specs.Machine.ProgramMemory.{Content, IsNamed, put_byte}
-use Rattle.model.specs.declared.instructions.Access.TheVariants.{Store}
+-- A word is written where the program may, in a frame: tables and slots stay.
+use Rattle.std.proofs.Common.{◌∙◌, ◌≡◌, ◌^◌, ◌<◌, Ok, ap, arith, subst, sym}
+use Rattle.cnode_ops.proofs.Laws.{consistent-of, whole-of}
+use Rattle.model.specs.Machine.ProgramMemory.{stored}
+use Rattle.model.specs.declared.instructions.AccessSize.TheVariants.{Word}
 use Rattle.objects.specs.Lives.{state_in}
-use Rattle.user_memory.proofs.WordStores.{word-stored}
-use Rattle.user_memory.proofs.Words.{behind}
-use Rattle.user_memory.specs.Views.{content_under}
+use Rattle.objects.specs.Tables.{state_of}
+use Rattle.user_memory.proofs.WordsWritten.{word-is, word-left, word-outside, word-within}
+use Rattle.user_memory.specs.Views.{IsUsable, IsWordAt, beside_of, content_under}
 use Rattle.user_memory.proofs.view.UserMemory.put_word.Goals as goal
 
-pub set_byte-requires-2 : goal.set_byte-requires-2
-set_byte-requires-2 g c =
+pub write32-requires-clause-within : goal.write32-requires-clause-within
+write32-requires-clause-within g c =
+    let slots = g.S.SlotMap.slots in
+    let memory = g.S.SlotStore.memory in
+    let o = c.live.inside.objects in
+    let store = c.live.inside.store in
+    let whole = whole-of slots memory o store c.kernel.invariant c.live.view_is c.live.invariant in
+    let of_kernel = c.live.view_is ∙ c.kernel.view_is in
     let view = c.args.self.now in
-    let s = state_in g.S.SlotMap.slots g.S.SlotStore.memory view.kernel.now in
-    let memory = g.S.SlotStore.memory view.kernel.now.store in
-    let place = c.args.place in
-    let bytes = c.to_le_bytes-bytes.result in
-    let content : Content = content_under s view.root in
-    let first = c.set_byte.ensures.content in
-    subst (λ (x : Content). IsNamed x (place + 1)) (sym first) (record {
-      access = Store;
-      address = c.args.address + 1;
-      names = behind s memory view.root view.usable Store c.args.address place c.requires.aligned (omega (arith, c.ranges.address.fits)) c.requires.named 1
-          (c.args.address + 1) (omega arith) refl;
-    })
+    let usable = subst (λ k. ∥ IsUsable (state_in slots memory k) (memory k.store) view.root ∥₁) (sym of_kernel) view.usable in
+    let at = subst (λ k. IsWordAt (content_under (state_in slots memory k) view.root) c.args.address c.args.place) (sym of_kernel) c.requires in
+    let small : c.args.address < 2 ^ 32 = omega (arith, c.ranges.address.fits) in
+    word-within o (slots store) (memory store) view.root c.args.address c.args.place c.args.value usable at small whole
 
-pub set_byte-requires-3 : goal.set_byte-requires-3
-set_byte-requires-3 g c =
+pub write32-requires-clause-outside : goal.write32-requires-clause-outside
+write32-requires-clause-outside g c =
+    let slots = g.S.SlotMap.slots in
+    let memory = g.S.SlotStore.memory in
+    let o = c.live.inside.objects in
+    let store = c.live.inside.store in
+    let whole = whole-of slots memory o store c.kernel.invariant c.live.view_is c.live.invariant in
+    let of_kernel = c.live.view_is ∙ c.kernel.view_is in
     let view = c.args.self.now in
-    let s = state_in g.S.SlotMap.slots g.S.SlotStore.memory view.kernel.now in
-    let memory = g.S.SlotStore.memory view.kernel.now.store in
-    let place = c.args.place in
-    let bytes = c.to_le_bytes-bytes.result in
-    let content : Content = content_under s view.root in
-    let first = c.set_byte.ensures.content in
-    let second = c.set_byte-2.ensures.content ∙ ap (λ (x : Content). put_byte x (place + 1) (slice_index bytes 1)) first in
-    subst (λ (x : Content). IsNamed x (place + 2)) (sym second) (record {
-      access = Store;
-      address = c.args.address + 2;
-      names = behind s memory view.root view.usable Store c.args.address place c.requires.aligned (omega (arith, c.ranges.address.fits)) c.requires.named 2
-          (c.args.address + 2) (omega arith) refl;
-    })
+    let usable = subst (λ k. ∥ IsUsable (state_in slots memory k) (memory k.store) view.root ∥₁) (sym of_kernel) view.usable in
+    let at = subst (λ k. IsWordAt (content_under (state_in slots memory k) view.root) c.args.address c.args.place) (sym of_kernel) c.requires in
+    let small : c.args.address < 2 ^ 32 = omega (arith, c.ranges.address.fits) in
+    word-outside o (slots store) (memory store) view.root c.args.address c.args.place c.args.value usable at small whole
 
-pub set_byte-requires-4 : goal.set_byte-requires-4
-set_byte-requires-4 g c =
+pub invariant_of-live : goal.invariant_of-live
+invariant_of-live g c =
+    let slots = g.S.SlotMap.slots in
+    let memory = g.S.SlotStore.memory in
+    let o = c.live.inside.objects in
+    let store = c.live.inside.store in
+    let whole = whole-of slots memory o store c.kernel.invariant c.live.view_is c.live.invariant in
+    let of_kernel = c.live.view_is ∙ c.kernel.view_is in
     let view = c.args.self.now in
-    let s = state_in g.S.SlotMap.slots g.S.SlotStore.memory view.kernel.now in
-    let memory = g.S.SlotStore.memory view.kernel.now.store in
-    let place = c.args.place in
-    let bytes = c.to_le_bytes-bytes.result in
-    let content : Content = content_under s view.root in
-    let first = c.set_byte.ensures.content in
-    let second = c.set_byte-2.ensures.content ∙ ap (λ (x : Content). put_byte x (place + 1) (slice_index bytes 1)) first in
-    let third = c.set_byte-3.ensures.content ∙ ap (λ (x : Content). put_byte x (place + 2) (slice_index bytes 2)) second in
-    subst (λ (x : Content). IsNamed x (place + 3)) (sym third) (record {
-      access = Store;
-      address = c.args.address + 3;
-      names = behind s memory view.root view.usable Store c.args.address place c.requires.aligned (omega (arith, c.ranges.address.fits)) c.requires.named 3
-          (c.args.address + 3) (omega arith) refl;
-    })
+    let usable = subst (λ k. ∥ IsUsable (state_in slots memory k) (memory k.store) view.root ∥₁) (sym of_kernel) view.usable in
+    let at = subst (λ k. IsWordAt (content_under (state_in slots memory k) view.root) c.args.address c.args.place) (sym of_kernel) c.requires in
+    let small : c.args.address < 2 ^ 32 = omega (arith, c.ranges.address.fits) in
+    let left = word-left o (slots store) (memory store) view.root c.args.address c.args.place c.args.value usable at small whole
+    view.kernel.ghost_name (slots c.write32.new.self) (memory c.write32.new.self) c.write32.ensures.slots
+    c.write32.ensures.bytes in
+    left.whole_now.stands
+
+pub invariant_of-kernel : goal.invariant_of-kernel
+invariant_of-kernel g c =
+    let slots = g.S.SlotMap.slots in
+    let memory = g.S.SlotStore.memory in
+    let o = c.live.inside.objects in
+    let store = c.live.inside.store in
+    let whole = whole-of slots memory o store c.kernel.invariant c.live.view_is c.live.invariant in
+    let of_kernel = c.live.view_is ∙ c.kernel.view_is in
+    let view = c.args.self.now in
+    let usable = subst (λ k. ∥ IsUsable (state_in slots memory k) (memory k.store) view.root ∥₁) (sym of_kernel) view.usable in
+    let at = subst (λ k. IsWordAt (content_under (state_in slots memory k) view.root) c.args.address c.args.place) (sym of_kernel) c.requires in
+    let small : c.args.address < 2 ^ 32 = omega (arith, c.ranges.address.fits) in
+    let left = word-left o (slots store) (memory store) view.root c.args.address c.args.place c.args.value usable at small whole
+    view.kernel.ghost_name (slots c.write32.new.self) (memory c.write32.new.self) c.write32.ensures.slots
+    c.write32.ensures.bytes in
+    consistent-of left.whole_now
+
+pub invariant_of-self : goal.invariant_of-self
+invariant_of-self g c =
+    let slots = g.S.SlotMap.slots in
+    let memory = g.S.SlotStore.memory in
+    let o = c.live.inside.objects in
+    let store = c.live.inside.store in
+    let whole = whole-of slots memory o store c.kernel.invariant c.live.view_is c.live.invariant in
+    let of_kernel = c.live.view_is ∙ c.kernel.view_is in
+    let view = c.args.self.now in
+    let usable = subst (λ k. ∥ IsUsable (state_in slots memory k) (memory k.store) view.root ∥₁) (sym of_kernel) view.usable in
+    let at = subst (λ k. IsWordAt (content_under (state_in slots memory k) view.root) c.args.address c.args.place) (sym of_kernel) c.requires in
+    let small : c.args.address < 2 ^ 32 = omega (arith, c.ranges.address.fits) in
+    let left = word-left o (slots store) (memory store) view.root c.args.address c.args.place c.args.value usable at small whole
+    view.kernel.ghost_name (slots c.write32.new.self) (memory c.write32.new.self) c.write32.ensures.slots
+    c.write32.ensures.bytes in
+    record { usable = left.usable_now }
 
 pub returns-clause-content : goal.returns-clause-content
 returns-clause-content g c =
+    let slots = g.S.SlotMap.slots in
+    let memory = g.S.SlotStore.memory in
+    let o = c.live.inside.objects in
+    let store = c.live.inside.store in
+    let whole = whole-of slots memory o store c.kernel.invariant c.live.view_is c.live.invariant in
+    let of_kernel = c.live.view_is ∙ c.kernel.view_is in
     let view = c.args.self.now in
-    let s = state_in g.S.SlotMap.slots g.S.SlotStore.memory view.kernel.now in
-    let memory = g.S.SlotStore.memory view.kernel.now.store in
-    let place = c.args.place in
-    let bytes = c.to_le_bytes-bytes.result in
-    let content : Content = content_under s view.root in
-    let first = c.set_byte.ensures.content in
-    let second = c.set_byte-2.ensures.content ∙ ap (λ (x : Content). put_byte x (place + 1) (slice_index bytes 1)) first in
-    let third = c.set_byte-3.ensures.content ∙ ap (λ (x : Content). put_byte x (place + 2) (slice_index bytes 2)) second in
-    let fourth = c.set_byte-4.ensures.content ∙ ap (λ (x : Content). put_byte x (place + 3) (slice_index bytes 3)) third in
-    word-stored s memory view.root view.usable c.args.address place c.args.value c.requires.aligned (omega (arith, c.ranges.address.fits)) c.requires.named
-    bytes c.to_le_bytes-bytes.ensures
-    ∙ ap Ok (sym fourth)
+    let usable = subst (λ k. ∥ IsUsable (state_in slots memory k) (memory k.store) view.root ∥₁) (sym of_kernel) view.usable in
+    let at = subst (λ k. IsWordAt (content_under (state_in slots memory k) view.root) c.args.address c.args.place) (sym of_kernel) c.requires in
+    let small : c.args.address < 2 ^ 32 = omega (arith, c.ranges.address.fits) in
+    let left = word-left o (slots store) (memory store) view.root c.args.address c.args.place c.args.value usable at small whole
+    view.kernel.ghost_name (slots c.write32.new.self) (memory c.write32.new.self) c.write32.ensures.slots
+    c.write32.ensures.bytes in
+    subst (λ k. stored (content_under (state_in slots memory k) view.root) Word c.args.address c.args.value
+    ≡ Ok (content_under (state_of o (slots c.write32.new.self) (memory c.write32.new.self)) view.root)) of_kernel
+    (word-is o (slots store) (memory store) view.root c.args.address c.args.place c.args.value usable at small whole ∙ ap Ok (sym left.sees))
+
+pub returns-clause-rest : goal.returns-clause-rest
+returns-clause-rest g c =
+    let slots = g.S.SlotMap.slots in
+    let memory = g.S.SlotStore.memory in
+    let o = c.live.inside.objects in
+    let store = c.live.inside.store in
+    let whole = whole-of slots memory o store c.kernel.invariant c.live.view_is c.live.invariant in
+    let of_kernel = c.live.view_is ∙ c.kernel.view_is in
+    let view = c.args.self.now in
+    let usable = subst (λ k. ∥ IsUsable (state_in slots memory k) (memory k.store) view.root ∥₁) (sym of_kernel) view.usable in
+    let at = subst (λ k. IsWordAt (content_under (state_in slots memory k) view.root) c.args.address c.args.place) (sym of_kernel) c.requires in
+    let small : c.args.address < 2 ^ 32 = omega (arith, c.ranges.address.fits) in
+    let left = word-left o (slots store) (memory store) view.root c.args.address c.args.place c.args.value usable at small whole
+    view.kernel.ghost_name (slots c.write32.new.self) (memory c.write32.new.self) c.write32.ensures.slots
+    c.write32.ensures.bytes in
+    subst (λ k. beside_of o (slots c.write32.new.self) (memory c.write32.new.self) view.root view.kernel.ghost_name
+    ≡ beside_of k.tables (slots k.store) (memory k.store) view.root view.kernel.ghost_name) of_kernel left.rest

@@ -1,5 +1,5 @@
 -- The second byte lies after the first, in the same page, and its place stays while the first is put there.
-use Rattle.std.proofs.Common.{rules, ◌≡◌, ◌∙◌, ◌+◌, Ok, refl, sym, ap, arith, subst}
+use Rattle.std.proofs.Common.{◌≡◌, ◌∙◌, ◌+◌, Ok, refl, sym, ap, arith, subst}
 use Rattle.std.specs.Prelude.{slice_index}
 use Rattle.model.specs.Machine.ProgramMemory.{Content, IsNamed, place_at, put_byte}
 use Rattle.model.specs.declared.instructions.Access.TheVariants.{Store}
@@ -13,7 +13,7 @@ set_byte-requires-in-Some g c =
     let view = c.args.self.now in
     let s = state_in g.S.SlotMap.slots g.S.SlotStore.memory view.kernel.now in
     let place = c.in-Some.place in
-    let found : place_at (content_under s view.root) Store c.args.address ≡ Ok place = search rules in
+    let found : place_at (content_under s view.root) Store c.args.address ≡ Ok place = sym (c.requires place c.in-Some.is) in
     subst (λ (x : Content). IsNamed x (place + 1)) (sym c.set_byte.ensures.content) (record {
       access = Store;
       address = c.args.address + 1;
@@ -26,7 +26,7 @@ returns-in-Some-clause-content g c =
     let s = state_in g.S.SlotMap.slots g.S.SlotStore.memory view.kernel.now in
     let place = c.in-Some.place in
     let bytes = c.to_le_bytes-bytes.result in
-    let found : place_at (content_under s view.root) Store c.args.address ≡ Ok place = search rules in
+    let found : place_at (content_under s view.root) Store c.args.address ≡ Ok place = sym (c.requires place c.in-Some.is) in
     let first = c.set_byte.ensures.content in
     let both = c.set_byte-in-Some.ensures.content ∙ ap (λ (x : Content). put_byte x (place + 1) (slice_index bytes 1)) first in
     half-stored s view.root c.args.address place c.args.value c.if-address-ne0.false (omega (arith, c.ranges.address.fits)) found

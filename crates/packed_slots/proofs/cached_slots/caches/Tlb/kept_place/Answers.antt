@@ -1,6 +1,6 @@
 -- The leaf of a page gives what the walk gives.
-use Rattle.std.proofs.Common.{◌≡◌, ◌∙◌, ◌/◌, ◌%◌, ◌^◌, Some, sym, ap}
-use Rattle.packed_slots.specs.cached_slots.KeptLeaves.{leaf_of}
+use Rattle.std.proofs.Common.{◌≡◌, ◌∙◌, ◌/◌, ◌^◌, Some, sym, ap}
+use Rattle.packed_slots.specs.cached_slots.KeptLeaves.{leaf_of, place_for}
 use Rattle.packed_slots.proofs.cached_slots.LeafWalks.{walk_leaf}
 use Rattle.packed_slots.proofs.cached_slots.caches.Tlb.kept_place.Goals as goal
 
@@ -12,5 +12,5 @@ returns-in-Some c = λ place gives.
     let found : leaf_of c.args.memory.now c.args.root page ≡ Some kept.leaf =
     ap (λ r. leaf_of c.args.memory.now r page) (sym (c.find.ensures.root kept is))
     ∙ ap (λ p. leaf_of c.args.memory.now kept.root p) (sym (c.find.ensures.page kept is))
-    ∙ c.requires.each (page % 64) kept (c.find.ensures.kept kept is) in
+    ∙ c.requires.each (place_for c.args.root page) kept (c.find.ensures.kept kept is) in
     walk_leaf c.args.memory.now c.args.root c.args.address kept.leaf c.args.access found ∙ c.near_place.ensures place gives
