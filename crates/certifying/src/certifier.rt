@@ -10,6 +10,7 @@ use crate::forms::Form;
 use crate::graph::{Graph, changes};
 use crate::loops::Loops;
 use crate::needs::{Registers, only};
+use crate::prints::Differing;
 use crate::tables::{Table, start_bounds};
 use crate::ways::Way;
 use crate::{Fault, Reason};
@@ -49,7 +50,8 @@ pub enum Effort {
     Least,
     /// The same records with all ranges that are known.
     AllRanges,
-    /// Records at all points that are reached, with all ranges that are known.
+    /// The same records, and others at all points that are reached, with all ranges that are known: as far as the slots in those are
+    /// not more than some for each point.
     AllPoints,
 }
 
@@ -87,6 +89,9 @@ const MOST_TERMS: usize = 4;
 
 /// How many slots a record notes at most.
 const MOST_SLOTS: usize = model::MOST_SLOTS as usize;
+
+/// How many slots the records at points that need none have at most for each point of the program, all together.
+const SLOTS_A_POINT: usize = 16;
 
 /// The greatest constant and budget.
 const GREATEST: u64 = 1 << 62;
@@ -298,16 +303,6 @@ impl BareThread<'_, '_> {
         Graph::new(self.alloc, self.count(), entry, ways, bounds)
     }
 
-    /// Which points get records.
-    fn marks(&self, graph: &Graph, costs: &Costs, budget: u64) -> Result<Vec<bool>, Fault> {
-        match self.effort {
-            Effort::Least | Effort::AllRanges => {
-                marked_points(graph, costs, budget.cast_signed())
-            }
-            Effort::AllPoints => marks_of(graph.alloc, graph.count, true),
-        }
-    }
-
     /// Of which registers ranges are noted at each point.
     fn noted(&self, graph: &Graph, costs: &Costs) -> Result<Vec<Registers>, Fault> {
         match self.effort {
@@ -316,59 +311,24 @@ impl BareThread<'_, '_> {
         }
     }
 
-    /// The changes of slots at a point.
-    pub(crate) fn changes_at(
+    /// The record at a point with this cost and these ranges and slots.
+    fn record(
         &self,
-        table: &Table<'_, '_>,
-        point: u32,
-    ) -> Result<Vec<NotedSlot>, Fault> {
-        match table.state(point) {
-            Some(state) => self.told(table.shared.part(state.changes)),
-            None => Ok(Vec::new(self.alloc)),
-        }
-    }
-
-    /// The changes of slots that a record at a point notes. Where they are more than a record has there is none, unless the point
-    /// needs one.
-    fn noted_changes(
-        &self,
-        table: &Table<'_, '_>,
-        point: u32,
-    ) -> Result<Option<Vec<NotedSlot>>, Fault> {
-        let changes = self.changes_at(table, point)?;
-        if changes.len() <= MOST_SLOTS {
-            return Ok(Some(changes));
-        }
-        match self.effort {
-            Effort::Least | Effort::AllRanges => Err(Fault::At {
-                point,
-                reason: Reason::TooManySlots,
-            }),
-            Effort::AllPoints => Ok(None),
-        }
-    }
-
-    /// The record at a point with this cost and these ranges, if it has one.
-    fn noted_record(
-        &self,
-        table: &Table<'_, '_>,
         point: u32,
         cost: &Form,
         bounds: Bounds,
-    ) -> Result<Option<Record>, Fault> {
-        match self.noted_changes(table, point)? {
-            Some(changes) => Ok(Some(Record {
-                point,
-                constant: cost.constant,
-                terms: terms_of(self.alloc, cost, point)?,
-                bounds,
-                changes,
-            })),
-            None => Ok(None),
-        }
+        changes: Vec<NotedSlot>,
+    ) -> Result<Record, Fault> {
+        Ok(Record {
+            point,
+            constant: cost.constant,
+            terms: terms_of(self.alloc, cost, point)?,
+            bounds,
+            changes,
+        })
     }
 
-    /// The records at all marked points.
+    /// The records at all points that get one.
     fn records(
         &self,
         graph: &Graph,
@@ -378,14 +338,14 @@ impl BareThread<'_, '_> {
         marks: &[bool],
     ) -> Result<Vec<Record>, Fault> {
         let mut records = Vec::new(graph.alloc);
+        let mut noting = Noting::new(*self, graph.count)?;
         'points: for point in 0..graph.count {
-            if let (true, Some(cost), Some(bounds)) = (
-                is_marked(marks, point),
+            if let (Some(cost), Some(bounds)) = (
                 cost_at(costs, point),
                 bounds_needed(graph, needs, point),
             ) {
-                if let Some(record) = self.noted_record(table, point, &cost, bounds)? {
-                    records.push(record)?;
+                if let Some(changes) = noting.changes(table, point, is_marked(marks, point))? {
+                    records.push(self.record(point, &cost, bounds, changes)?)?;
                 }
             }
         }
@@ -400,7 +360,7 @@ impl BareThread<'_, '_> {
         table: &Table<'_, '_>,
     ) -> Result<Certificate, Fault> {
         let budget = self.budget(graph, costs)?;
-        let marks = self.marks(graph, costs, budget)?;
+        let marks = marked_points(graph, costs, budget.cast_signed())?;
         let needs = self.noted(graph, costs)?;
         let records = self.records(graph, costs, &needs, table, &marks)?;
         Ok(Certificate { budget, records })
@@ -416,6 +376,68 @@ impl BareThread<'_, '_> {
             });
         }
         Ok(budget)
+    }
+}
+
+/// The slots that records note, from point to point.
+#[derive(Drop)]
+struct Noting<'a, 's> {
+    differing: Differing<'a, 's>,
+    /// How many slots records may have at points that need none.
+    left: usize,
+}
+
+impl<'a, 's> Noting<'a, 's> {
+    /// Nothing is noted yet of a thread with so many points.
+    fn new(thread: BareThread<'a, 's>, count: u32) -> Result<Self, Fault> {
+        let left = match thread.effort {
+            Effort::Least | Effort::AllRanges => 0,
+            Effort::AllPoints => (count as usize).saturating_mul(SLOTS_A_POINT),
+        };
+        Ok(Noting {
+            differing: Differing::none(thread)?,
+            left,
+        })
+    }
+
+    /// Whether the record at a point notes so many slots: where it needs one they have to fit, and else some have to be left.
+    fn takes(&mut self, point: u32, count: usize, is_needed: bool) -> Result<bool, Fault> {
+        if !is_needed {
+            let fits = count <= MOST_SLOTS && count <= self.left;
+            if fits {
+                self.left = self.left.saturating_sub(count);
+            }
+            return Ok(fits);
+        }
+        if MOST_SLOTS < count {
+            return Err(Fault::At {
+                point,
+                reason: Reason::TooManySlots,
+            });
+        }
+        Ok(true)
+    }
+
+    /// The changes of slots that the record at a point notes, if it gets one.
+    fn changes(
+        &mut self,
+        table: &Table<'_, '_>,
+        point: u32,
+        is_needed: bool,
+    ) -> Result<Option<Vec<NotedSlot>>, Fault> {
+        if !is_needed && self.left == 0 {
+            return Ok(None);
+        }
+        let Some(state) = table.state(point) else {
+            return Ok(None);
+        };
+        self.differing.go_on(&table.shared.log, state.changes)?;
+        let count = self.differing.count();
+        if !self.takes(point, count, is_needed)? {
+            return Ok(None);
+        }
+        let noted = self.differing.listed(&table.shared.log)?;
+        Ok(Some(noted))
     }
 }
 

@@ -8,11 +8,11 @@ use crate::bare_threads::BareThread;
 use crate::certifier::{Record, Unfit, has_records};
 use crate::costs::Counting;
 use crate::flow::{MOST_VISITS, add_ways};
+use crate::prints::Differing;
 use crate::tables::Table;
-use crate::ways::Way;
+use crate::ways::{State, Way};
 use crate::{Effort, Fault, Reason};
 use image_reading::{ImageRef, read};
-use ranges::Bounds;
 use std::alloc::Global;
 use thread_spaces::{PlacedImage, PlacedThread, ThreadParts, offsets_of, promises_of};
 use typestate::PlacedPromises;
@@ -201,19 +201,21 @@ impl BareThread<'_, '_> {
         Ok(())
     }
 
-    /// What is known at a point, of which the ranges are given.
+    /// What is known at a point with this state. The slots go on from those of the point before.
     fn known_at(
         &self,
         table: &Table<'_, '_>,
+        differing: &mut Differing<'_, '_>,
         point: u32,
-        bounds: &Bounds,
+        state: &State,
     ) -> Result<Record, Fault> {
-        let changes = self.changes_at(table, point)?;
+        differing.go_on(&table.shared.log, state.changes)?;
+        let changes = differing.listed(&table.shared.log)?;
         Ok(Record {
             point,
             constant: 0,
             terms: Vec::new(self.alloc),
-            bounds: *bounds,
+            bounds: state.bounds,
             changes,
         })
     }
@@ -221,9 +223,10 @@ impl BareThread<'_, '_> {
     /// What is known at all points that are reached.
     fn known(&self, table: &Table<'_, '_>) -> Result<Vec<Record>, Fault> {
         let mut known = Vec::new(self.alloc);
+        let mut differing = Differing::none(*self)?;
         'points: for point in 0..self.count() {
-            if let Some(bounds) = table.bounds(point) {
-                known.push(self.known_at(table, point, &bounds)?)?;
+            if let Some(state) = table.state(point) {
+                known.push(self.known_at(table, &mut differing, point, &state)?)?;
             }
         }
         Ok(known)

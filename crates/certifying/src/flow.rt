@@ -3,7 +3,7 @@
 use crate::bare_threads::BareThread;
 use crate::marks::Marks;
 use crate::ranged::joined;
-use crate::shared::Stretch;
+use crate::stretches::Stretch;
 use crate::tables::{Table, start_bounds};
 use crate::ways::{Way, Ways};
 use crate::{Fault, Reason};
@@ -199,25 +199,6 @@ impl<'a, 's> BareThread<'a, 's> {
         }
     }
 
-    /// Refuses a way that leaves other slots than are known at its target.
-    fn leaves_same(
-        &self,
-        table: &mut Table<'_, '_>,
-        way: &Way,
-        changes: Stretch,
-    ) -> Result<(), Fault> {
-        let Some(state) = table.state(way.target) else {
-            return Ok(());
-        };
-        if self.are_same(&mut table.shared, state.changes, changes)? {
-            return Ok(());
-        }
-        Err(Fault::At {
-            point: way.from,
-            reason: Reason::SlotsDiffer,
-        })
-    }
-
     /// Follows a way with these slots, and answers which point is looked at next: its target, if more is known there now and it
     /// is before the given one.
     fn reach_along(
@@ -230,7 +211,7 @@ impl<'a, 's> BareThread<'a, 's> {
         let Some(way) = way else {
             return Ok(next);
         };
-        self.leaves_same(table, &way, changes)?;
+        leaves_same(table, &way, changes)?;
         if table.reach(&way, changes)? {
             return Ok(next.min(way.target));
         }
@@ -366,6 +347,17 @@ impl<'a, 's> BareThread<'a, 's> {
         self.narrow_all(&mut table)?;
         let ways = self.all_ways(&mut table)?;
         Ok(Flow { table, ways })
+    }
+}
+
+/// Refuses a way that leaves other slots than are known at its target.
+fn leaves_same(table: &Table<'_, '_>, way: &Way, changes: Stretch) -> Result<(), Fault> {
+    match table.state(way.target) {
+        Some(state) if !state.changes.leaves_same(changes) => Err(Fault::At {
+            point: way.from,
+            reason: Reason::SlotsDiffer,
+        }),
+        _ => Ok(()),
     }
 }
 

@@ -14,8 +14,10 @@ mod looked;
 mod loops;
 mod marks;
 mod needs;
+mod prints;
 mod ranged;
 mod shared;
+mod stretches;
 mod tables;
 mod ways;
 

@@ -10,13 +10,13 @@ ghost use Rattle.typestate.specs.Unlinked.{AreUnlinked};
 
 use crate::Fault;
 use crate::bare_threads::BareThread;
-use crate::shared::Stretch;
+use crate::stretches::{Stretch, StretchLog};
 use model::{Point, Refusal};
 use ranges::Bounds;
 use std::alloc::AllocError;
 use std::marker::Model;
 use typestate::{
-    Behind, LogEntry, Part, ShownPart, SlotLog, ThreadSlots, ToldSlots,
+    Behind, LogEntry, NotedSlot, Part, ShownPart, SlotKey, SlotLog, ThreadSlots, ToldSlots,
     no_stray_slot_leads_outside, points_without_stray_slots_have_none,
 };
 
@@ -104,17 +104,28 @@ impl<'a, 's> Looked<'a, 's> {
         Ok(())
     }
 
-    /// Goes on to the changes of a stretch, which is in a list of changes. What it begins with is not gone through again.
-    pub(crate) fn go_on(&mut self, changes: &[LogEntry], stretch: Stretch) -> Result<(), Fault>
+    /// Goes on to the changes of a stretch of a log. What it begins with is not gone through again.
+    pub(crate) fn go_on(&mut self, log: &StretchLog, stretch: Stretch) -> Result<(), Fault>
         ensures { IfOk result (λ _. self.new ≡ true) }
     {
         self.begin(stretch)?;
-        let more = self.stretch.rest_of(stretch, changes);
+        let more = log.between(self.stretch, stretch);
         self.stretch = stretch;
         if more.is_empty() {
             return Ok(());
         }
         self.grow(more)
+    }
+
+    /// What is in a slot after the changes of a stretch of a log, if it is full.
+    pub(crate) fn at(
+        &mut self,
+        log: &StretchLog,
+        stretch: Stretch,
+        key: SlotKey,
+    ) -> Result<Option<NotedSlot>, Fault> {
+        self.go_on(log, stretch)?;
+        Ok(self.shown.slots(self.thread.given.slots).at(key))
     }
 
     /// Notes where the changes are that are shown.

@@ -3,7 +3,8 @@
 use crate::Fault;
 use crate::bare_threads::BareThread;
 use crate::ranged::{joined, widened};
-use crate::shared::{Shared, Stretch};
+use crate::shared::Shared;
+use crate::stretches::Stretch;
 use crate::ways::{State, Way};
 use ranges::{Bounds, Range};
 use typestate::{LogEntry, NotedSlot, SlotKey};
@@ -13,6 +14,12 @@ const PATIENCE: u32 = 6;
 
 /// How often they are widened to a threshold, before they are widened to the ends.
 const MOST_STEPS: u32 = 250;
+
+/// How many points are looked at, those that are looked at again too, before all ranges are widened to the ends at once: so many for
+/// each point of the program, and so many beside. So loops in one another cost no product of their turns.
+const VISITS_A_POINT: u32 = 16;
+
+const VISITS_BESIDE: u32 = 1 << 18;
 
 /// What is known of a point so far.
 #[derive(Drop)]
@@ -32,6 +39,8 @@ pub(crate) struct Table<'a, 's> {
     pub(crate) shared: Shared<'a, 's>,
     /// Where ranges stop that are widened. They rise.
     thresholds: Vec<u32>,
+    /// How many points are looked at before ranges are widened to the ends.
+    patience: u32,
 }
 
 /// Whether two slots were derived from the same.
@@ -48,19 +57,6 @@ fn is_same_change(first: &NotedSlot, second: &NotedSlot) -> bool {
     first.key.is_same(second.key)
         && first.capability == second.capability
         && is_same_parent(first.parent, second.parent)
-}
-
-/// Whether changes are the same. Their keys rise.
-pub(crate) fn are_same_changes(first: &[NotedSlot], second: &[NotedSlot]) -> bool {
-    if first.len() != second.len() {
-        return false;
-    }
-    'changes: for (one, other) in first.iter().zip(second) {
-        if !is_same_change(one, other) {
-            return false;
-        }
-    }
-    true
 }
 
 /// Whether two entries of a log are the same.
@@ -109,6 +105,9 @@ impl<'a, 's> Table<'a, 's> {
             places,
             shared: Shared::new(thread, count)?,
             thresholds: Vec::new(alloc),
+            patience: count
+                .saturating_mul(VISITS_A_POINT)
+                .saturating_add(VISITS_BESIDE),
         })
     }
 
@@ -191,6 +190,7 @@ impl<'a, 's> Table<'a, 's> {
             Some(place) => {
                 let waits = place.waits;
                 place.waits = false;
+                self.patience = self.patience.saturating_sub(u32::from(waits));
                 waits
             }
             None => false,
@@ -240,7 +240,7 @@ impl<'a, 's> Table<'a, 's> {
             return Ok(*both);
         }
         let grown = self.count_growth(way.target);
-        if MOST_STEPS <= grown {
+        if MOST_STEPS <= grown || self.patience == 0 {
             return Ok(widened(before, both, &[]));
         }
         self.add_values(before)?;
@@ -252,11 +252,32 @@ impl<'a, 's> Table<'a, 's> {
         }
     }
 
+    /// Takes the changes to slots at a point as they are noted on the way from the point before it, if what follows is still to be
+    /// looked at. They leave the same, and what follows goes on from there, so that no changes are repeated in the log.
+    fn go_on_from(&mut self, way: &Way, changes: Stretch) {
+        if way.is_jump {
+            return;
+        }
+        if let Some(
+            Place {
+                state: Some(state),
+                waits: true,
+                ..
+            },
+        ) = self.places.get_mut(way.target as usize)
+        {
+            state.changes = changes;
+        }
+    }
+
     /// Notes that a way leads to its target, whose slots it leaves as they are known there if some are, and answers whether more is
     /// known there now.
     pub(crate) fn reach(&mut self, way: &Way, changes: Stretch) -> Result<bool, Fault> {
         match self.state(way.target) {
-            Some(state) => self.grow(way, &state.bounds),
+            Some(state) => {
+                self.go_on_from(way, changes);
+                self.grow(way, &state.bounds)
+            }
             None => {
                 let bounds = way.behind;
                 self.put(way.target, State { bounds, changes });

@@ -4,7 +4,8 @@ ghost use Rattle.std.specs.Prelude.{IfOk};
 ghost use Rattle.model.specs.Machine.Instructions.{IsInstr};
 
 use crate::bare_threads::BareThread;
-use crate::shared::{Shared, Stretch};
+use crate::shared::Shared;
+use crate::stretches::Stretch;
 use crate::{Fault, Reason};
 use measure::{AfterCall, AfterInstruction, Step, Value};
 use model::{Instr, Point, Refusal};

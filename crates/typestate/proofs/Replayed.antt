@@ -52,7 +52,7 @@ module _ (one other : SlotKey) where
       by-parent None none = refl
       by-parent (Some p) none = absurd (let clash : true ≡ false = none in cc)
 
-  listed-alone : (slots : List NotedSlot) (key : SlotKey) → AreUnlinked slots → option_map turns (slot_at slots key) ≡ slot_at slots key
+  pub listed-alone : (slots : List NotedSlot) (key : SlotKey) → AreUnlinked slots → option_map turns (slot_at slots key) ≡ slot_at slots key
   listed-alone slots key unlinked = by-held (slot_at slots key) refl
     where
       never : (a : Bool) → (a ≡ true → true ≡ false) → a ≡ false

@@ -175,7 +175,7 @@ put-rises slot (o ∷ rest) least rises more none = elim (cases_lt (number_of sl
     put-behind true is rises = absurd (let clash : true ≡ false = is in cc)
     put-behind false is rises = rises
 
-noted-rises : (slots : List NotedSlot) (change : NotedSlot) → RiseFrom 0 slots → RiseFrom 0 (with_noted slots change)
+pub noted-rises : (slots : List NotedSlot) (change : NotedSlot) → RiseFrom 0 slots → RiseFrom 0 (with_noted slots change)
 noted-rises slots change rises =
     let others = without_key change.key slots in
     let left = without-rises slots 0 change.key rises in

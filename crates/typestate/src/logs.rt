@@ -1,6 +1,6 @@
 //! A log of changes to slots. The slots at each point of a program are the image's with a part of it made.
 
-ghost use Rattle.std.specs.Prelude.{◌≡◌, [], ◌++◌, IfErr, IfOk, List, length, map, true};
+ghost use Rattle.std.specs.Prelude.{◌≡◌, [], ◌++◌, IfErr, IfOk, IfSome, List, length, map, true};
 ghost use Rattle.model.specs.Acceptance.NotedStates.{NotedSlot, entry_slot};
 ghost use Rattle.typestate.specs.Differences.{changed, slots_of};
 ghost use Rattle.typestate.specs.Logs.{Holds, IsNext, KeepsParts, Shows, ShowsSome, part_of};
@@ -101,6 +101,20 @@ impl SlotLog {
             alloc,
             entries: Vec::new(alloc),
         }
+    }
+
+    /// The entries of a part, if the log has it.
+    pub fn entries(&self, part: Part) -> Option<&[LogEntry]>
+        ensures held { IfSome result (λ _. Holds self.now part) }
+        ensures same { IfSome result (λ entries. entries.now ≡ part_of self.now part) }
+    {
+        if part.end < part.first {
+            return None;
+        }
+        if self.entries.len() < part.end {
+            return None;
+        }
+        Some(&self.entries[part.first..part.end])
     }
 
     /// Appends entries as a part of their own. Where memory is refused the log stays as it was.

@@ -2,6 +2,7 @@
 
 ghost use Rattle.std.specs.Prelude.{◌≡◌, None, false};
 ghost use Rattle.model.specs.Capabilities.CapabilityKinds.{frame_mapping};
+ghost use Rattle.model.specs.Capabilities.CapabilityWords.{words_of};
 ghost use Rattle.model.specs.Capabilities.Slots.{is_empty};
 
 use crate::records::capability_of;
@@ -58,21 +59,28 @@ impl PackedSlot {
     }
 
     /// Which slot it is.
-    pub(crate) fn key(&self) -> SlotKey
+    pub fn key(&self) -> SlotKey
         ensures { result ≡ self.now.key }
     {
         self.key
     }
 
     /// What it was derived from.
-    pub(crate) fn parent(&self) -> Option<SlotKey>
+    pub fn parent(&self) -> Option<SlotKey>
         ensures { result ≡ self.now.parent }
     {
         self.parent
     }
 
+    /// The two words of the capability.
+    pub fn words(&self) -> [u32; 2]
+        ensures { result ≡ words_of self.now.capability }
+    {
+        [self.head, self.word]
+    }
+
     /// Whether the slot is empty.
-    pub(crate) fn is_empty(&self) -> bool
+    pub fn is_empty(&self) -> bool
         ensures { result ≡ is_empty self.now.capability }
     {
         self.head == 0
