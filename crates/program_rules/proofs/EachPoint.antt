@@ -1,11 +1,11 @@
 -- What is kept of each point, as the points are gone through.
-use Rattle.std.proofs.Common.{ℕ, zero, suc, ◌≡◌, ◌∙◌, ◌+◌, Option, Some, None, List, refl, sym, ap, subst, arith}
+use Rattle.std.proofs.Common.{ℕ, zero, suc, ◌≡◌, ◌∙◌, ◌+◌, Bool, false, Option, Some, None, is_some, List, refl, sym, ap, subst, arith}
 use Rattle.measure.specs.Measures.{measure_of}
 use Rattle.model.specs.Acceptance.NotedStates.{NotedSlot, record_of}
 use Rattle.model.specs.Acceptance.PointStates.{Noted, Known, follows, noted, noted_or}
 use Rattle.model.specs.Images.Described.{Numbered}
 use Rattle.model.specs.Images.Image.{Image, StateRecord, Thread}
-use Rattle.program_rules.specs.Kept.{AreKept, HasPart, IsAt, IsCleanIn, IsKeptAt, IsPlain, IsRead, IsSound, Kept, before, noted_by}
+use Rattle.program_rules.specs.Kept.{AreKept, HasPart, IsAt, IsCleanIn, IsKeptAt, IsLeft, IsPlain, IsRead, IsSound, Kept, before, noted_by}
 use Rattle.program_rules.specs.declared.at_points.AtPoint.TheVariants as kept
 use Rattle.program_rules.specs.declared.kept_points.KeptPoints.{KeptPoints}
 use Rattle.program_rules.specs.declared.places.Place.TheVariants as place
@@ -93,6 +93,17 @@ grown image t slots old new ks keeps are = record { each = λ point p got. at-gr
 -- what follows from a point is what is before the next one
 pub next-before : (image : Image) (t : Numbered) (point : ℕ) → follows image t point (noted image t point) ≡ before image t (point + 1)
 next-before image t point = ap (before image t) (let next : suc point ≡ point + 1 = omega arith in next)
+
+-- what is left for the next point, which has a record or follows from this one
+pub left-next : (image : Image) (t : Numbered) (slots : List NotedSlot) (point : ℕ) (noted_next : Bool) (old new : List LogEntry) (k next : Kept)
+    → noted_next ≡ is_some (record_of t.thread (point + 1)) → IsKeptAt image t slots old point k
+    → (noted_next ≡ false → noted_by slots new next ≡ follows image t point (noted_by slots old k)) → IsSound new (point + 1) next
+    → IsCleanIn image t.thread slots new next → IsLeft image t slots new (point + 1) next
+left-next image t slots point noted_next old new k next listed is same sound clean = record {
+  same = λ none. same (listed ∙ ap is_some none) ∙ ap (follows image t point) is.same ∙ next-before image t point;
+  sound = sound;
+  clean = clean;
+}
 
 -- the next point that follows from one
 pub next-point : (image : Image) (t : Numbered) (slots : List NotedSlot) (log : List LogEntry) (point : ℕ) (k next : Kept) → IsPlain t.thread point →

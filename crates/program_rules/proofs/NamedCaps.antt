@@ -1,5 +1,5 @@
 -- The capability that a0 names at a point is what it names in the map of the thread's own slots.
-use Rattle.std.proofs.Common.{ℕ, ◌≡◌, ◌∙◌, ◌||◌, Bool, true, false, not, Result, Ok, Err, List, [], ◌∷◌, length, refl, sym, ap}
+use Rattle.std.proofs.Common.{ℕ, ◌≡◌, ◌∙◌, ◌||◌, false, not, Result, Ok, Err, List, [], ◌∷◌, length, refl, sym, ap}
 use Rattle.std.proofs.Math.Logic.{∥∥₁_elim, ∥∥₁_map}
 use Rattle.std.proofs.lemmas.Bool.{or_parts}
 use Rattle.std.specs.Coded.{coded_bool, coded_option, coded_ℕ}

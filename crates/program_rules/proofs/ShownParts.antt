@@ -1,10 +1,6 @@
 -- What is shown of a log, also where that grows.
 use Rattle.std.proofs.Common.{◌∙◌, List, sym, ap, subst}
-use Rattle.std.specs.Prelude.{slice_index_or}
-use Rattle.model.specs.Acceptance.NotedStates.{NotedSlot, are_same_slots}
-use Rattle.program_rules.specs.SameParts.{AreSame}
-use Rattle.program_rules.specs.declared.same_parts.SameParts.{SameParts}
-use Rattle.typestate.specs.Logs.{KeepsParts, Shows, ShowsSome, part_of}
+use Rattle.typestate.specs.Logs.{KeepsParts, Shows, ShowsSome}
 use Rattle.typestate.specs.declared.logs.Part.{Part}
 use Rattle.typestate.specs.declared.logs.ShownPart.{ShownPart}
 use Rattle.typestate.specs.Replays.{replayed}
@@ -28,17 +24,3 @@ pub keeps-both : (old between new : List LogEntry) → KeepsParts old between �
 keeps-both old between new first second = λ part held.
     let one = first part held in
     let two = second part one.0 in (two.0, two.1 ∙ one.1)
-
--- parts that leave the same slots, also where the log grows
-pub same-grown : (slots : List NotedSlot) (old new : List LogEntry) (same : SameParts) → KeepsParts old new → AreSame slots old same → AreSame slots new same
-same-grown slots old new same keeps all = λ k d below.
-    let one = all k d below in
-    let other = slice_index_or same.others.items k d in
-    let first = keeps same.part one.first in
-    let second = keeps other one.second in
-    record {
-      first = first.0;
-      second = second.0;
-      same = ap (λ (l : List LogEntry). are_same_slots (replayed slots l) (replayed slots (part_of new other))) first.1
-          ∙ ap (λ (l : List LogEntry). are_same_slots (replayed slots (part_of old same.part)) (replayed slots l)) second.1 ∙ one.same;
-    }

@@ -19,7 +19,6 @@ use Rattle.model.specs.declared.capabilities.Cap.TheVariants.{InterruptHandler}
 use Rattle.model.specs.declared.slot_entries.Entry.{Entry}
 use Rattle.typestate.specs.declared.window.Window.{Window}
 use Rattle.typestate.specs.Spaces.{AreWindows, IsWindow, NothingLeadsOutside, entry_in, is_among, key_in, key_within, own_slots, stands_within}
-use Rattle.typestate.specs.declared.spaces.Space.{Space}
 use Rattle.program_rules.proofs.CallLookups.{AgreeInside}
 
 -- ---- keys

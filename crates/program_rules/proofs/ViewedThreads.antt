@@ -1,6 +1,6 @@
 -- What is seen of threads, one after another.
-use Rattle.std.proofs.Common.{ℕ, ◌≡◌, ◌∙◌, ◌+◌, ◌++◌, List, [], ◌∷◌, length, sym, ap, subst}
-use Rattle.std.proofs.lemmas.List.{append-nil, append_assoc, length-append}
+use Rattle.std.proofs.Common.{ℕ, ◌≡◌, ◌∙◌, ◌+◌, ◌++◌, List, [], ◌∷◌, sym, ap, subst}
+use Rattle.std.proofs.lemmas.List.{append-nil, append_assoc}
 use Rattle.model.specs.Images.Image.{Image, Thread}
 use Rattle.program_rules.specs.Views.{AreProgramViews, IsProgramView}
 use Rattle.program_rules.specs.declared.views.ProgramView.{ProgramView}

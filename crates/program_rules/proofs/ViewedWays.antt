@@ -1,15 +1,17 @@
 -- The ways on from a point that is seen.
-use Rattle.std.proofs.Common.{ℕ, zero, suc, ◌≡◌, ◌∙◌, ◌≢◌, ◌+◌, ◌⊎◌, ◌++◌, inl, inr, Bool, true, Option, Some, None, option_map, Result, Ok, Err, List, [], ◌∷◌}
+use Rattle.std.proofs.Common.{ℕ, zero, suc, ◌≡◌, ◌∙◌, ◌≢◌, ◌+◌, ◌*◌, ◌^◌, ◌<◌, ◌≤◌, ◌⊎◌, ◌++◌, ◌&&◌, inl, inr, Bool, true, false, Option, Some, None}
+use Rattle.std.proofs.Common.{option_map, Result, Ok, Err, List, [], ◌∷◌}
 use Rattle.std.proofs.Common.{length, map, refl, sym, ap, subst, arith}
 use Rattle.std.specs.Prelude.{option_to_list, slice_get}
 use Rattle.std.specs.List.{list_all}
+use Rattle.std.specs.Option.{option_map_or}
 use Rattle.std.proofs.lemmas.List.{length-append}
-use Rattle.std.proofs.lemmas.Option.{none-some, same_Some}
+use Rattle.std.proofs.lemmas.Option.{none-some, same_Some, slice_get_within}
 use Rattle.model.specs.Acceptance.CallRules.{AfterCall}
-use Rattle.model.specs.Acceptance.Edges.{Edge, after}
+use Rattle.model.specs.Acceptance.Edges.{Edge, Edges, after, behind, edge_to, goes_behind}
 use Rattle.model.specs.Acceptance.NotedStates.{NotedSlot, PointState}
 use Rattle.model.specs.Acceptance.PointRules.{call_edges, edges_at, program_edge}
-use Rattle.model.specs.Acceptance.PointStates.{address_of, call_at, instruction_at, noted}
+use Rattle.model.specs.Acceptance.PointStates.{Known, Missing, Noted, Unmeasured, address_of, call_at, instruction_at, noted}
 use Rattle.model.specs.Acceptance.Ranges.{range_of}
 use Rattle.model.specs.Images.Described.{Numbered}
 use Rattle.model.specs.Images.Image.{Image}
@@ -20,9 +22,14 @@ use Rattle.model.specs.declared.instructions.Instr.TheVariants.{Upper, Jal, Jalr
 use Rattle.model.specs.declared.ranges.Range.{Range}
 use Rattle.model.specs.declared.refusals.Refusal.{Refusal}
 use Rattle.program_rules.proofs.EdgeRules.{plain-edges}
-use Rattle.program_rules.specs.Views.{AreViews, IsSeen, IsView, call_seen, capability_seen}
+use Rattle.program_rules.specs.Views.{AreViews, GoesOn as LeadsOn, IsLonger, IsSeen, IsView, IsViewOf, call_seen, capability_seen, count_of, is_on, view_at}
+use Rattle.program_rules.specs.Views.{whole_view}
 use Rattle.program_rules.specs.declared.views.PointView.{PointView}
+use Rattle.program_rules.specs.declared.views.PointView.TheVariants.{Unknown, Unclear, GoesOn, Seen}
+use Rattle.program_rules.specs.declared.views.PointViews.{PointViews}
 use Rattle.program_rules.specs.declared.views.SeenPoint.{SeenPoint}
+use Rattle.program_rules.specs.declared.views.ShortView.{ShortView}
+use Rattle.program_rules.specs.declared.views.ShortView.TheVariants as short
 use Rattle.ranges.specs.Edges.{way_of}
 use Rattle.ranges.specs.declared.edges.Edge.{Edge as Way}
 
@@ -53,6 +60,22 @@ plain-pass image t point state instr taken next one other plain one-is other-is 
     ∙ ap (λ (w : Option Way). list_all test (target_in one ++ target_in w)) (sym other-is)
     ∙ ap (λ (o : Option ℕ). list_all test (option_to_list o ++ target_in other)) (sym taken-is)
     ∙ ap (λ (o : Option ℕ). list_all test (option_to_list taken ++ option_to_list o)) (sym next-is) ∙ so)
+
+-- what is no jump and no end leads to the next instruction alone
+pub going-on : (instr : Instr) → is_on instr ≡ true → instr ≢ Ecall → (pc : ℕ) (ranges : List Range) → after pc instr ranges ≡ goes_behind pc instr ranges
+unfolding after
+going-on (Upper op rd immediate) on plain pc ranges = refl
+going-on (Jal rd offset) on plain pc ranges = absurd (let clash : false ≡ true = on in cc)
+going-on (Jalr rd rs1 offset) on plain pc ranges = absurd (let clash : false ≡ true = on in cc)
+going-on (Branch op rs1 rs2 offset) on plain pc ranges = absurd (let clash : false ≡ true = on in cc)
+going-on (Load op rd rs1 offset) on plain pc ranges = refl
+going-on (Store op rs1 rs2 offset) on plain pc ranges = refl
+going-on (Immediate op rd rs1 immediate) on plain pc ranges = refl
+going-on (Shift op rd rs1 amount) on plain pc ranges = refl
+going-on (Registers op rd rs1 rs2) on plain pc ranges = refl
+going-on Fence on plain pc ranges = refl
+going-on Ecall on plain pc ranges = absurd (plain refl)
+going-on Ebreak on plain pc ranges = absurd (let clash : false ≡ true = on in cc)
 
 call-passes : (pc : ℕ) (ranges : List Range) (called : Option (Result AfterCall Refusal)) (test : ℕ → Bool) → list_all test ((pc + 4) ∷ []) ≡ true
     → list_all (λ edge. test edge.target) (call_edges pc ranges called) ≡ true
@@ -117,31 +140,110 @@ module _ (image : Image) (t : Numbered) (point : ℕ) (state : PointState) (v : 
     ways = λ test so. ap (λ (i : Option Instr). list_all (λ edge. test edge.target) (edges_at image t point state i)) is;
   }
 
--- ---- lists of what is seen
+-- where no instruction but the next one is led to
+on-pass : (image : Image) (t : Numbered) (point : ℕ) (state : PointState) (instr : Instr) → t.thread.header.base + 4 * t.thread.header.words ≤ 2 ^ 31
+    → point < t.thread.header.words → instr ≢ Ecall
+    → after (address_of t.thread point) instr state.ranges ≡ goes_behind (address_of t.thread point) instr state.ranges → (test : ℕ → Bool)
+    → test (address_of t.thread point + 4) ≡ true → list_all (λ edge. test edge.target) (edges_at image t point state (Some instr)) ≡ true
+on-pass image t point state instr inside within plain on test so =
+    let pc = address_of t.thread point in
+    let here : behind (address_of t.thread point) ≡ address_of t.thread point + 4 = omega (arith, inside, within) in
+    plain-pass image t point state instr None (Some (behind pc)) None (Some (way_of (edge_to (behind pc) pc instr state.ranges))) plain
+    (sym (ap (λ (e : Edges). option_map way_of e.taken) on)) (sym (ap (λ (e : Edges). option_map way_of e.fall_through) on)) refl refl test
+    (ap (λ (b : Bool). b && true) (ap test here ∙ so))
 
-got-more : {A : Type 0} (xs : List A) (x : A) (n : ℕ) (v : A) → slice_get (xs ++ x ∷ []) n ≡ Some v →
-    (slice_get xs n ≡ Some v) ⊎ ((n ≡ length xs) × (x ≡ v))
-got-more [] x zero v is = inr (refl, same_Some x v is)
-got-more [] x (suc n) v is = absurd (none-some v is)
-got-more (y ∷ ys) x zero v is = inl is
-got-more (y ∷ ys) x (suc n) v is = elim (got-more ys x n v is) [
-  | inl before ↦ inl before
-  | inr here ↦ inr (ap suc here.0, here.1)
-]
-
-pub views-next : (image : Image) (t : Numbered) (count : ℕ) (views new : List PointView) (v : PointView) → AreViews image t count views
-    → IsView image t count (noted image t count) v → new ≡ views ++ v ∷ [] → AreViews image t (count + 1) new
-views-next image t count views new v are is grown = record {
-  long = ap length grown ∙ length-append views (v ∷ []) ∙ ap (λ n. n + 1) are.long;
-  each = λ point other at. elim (got-more views v point other (ap (λ (l : List PointView). slice_get l point) (sym grown) ∙ at)) [
-    | inl before ↦ are.each point other before
-    | inr here ↦ subst (λ (w : PointView). IsView image t point (noted image t point) w) here.1
-        (subst (λ n. IsView image t n (noted image t n) v) (sym (here.0 ∙ are.long)) is)
-  ];
+pub goes-seen : (image : Image) (t : Numbered) (point : ℕ) (state : PointState) (instr : Instr)
+    → t.thread.header.base + 4 * t.thread.header.words ≤ 2 ^ 31 → point < t.thread.header.words → instruction_at t.thread point ≡ Some instr
+    → instr ≢ Ecall → after (address_of t.thread point) instr state.ranges ≡ goes_behind (address_of t.thread point) instr state.ranges
+    → LeadsOn image t point state
+goes-seen image t point state instr inside within is plain on = record {
+  plain = λ call. plain (same_Some instr Ecall (sym is ∙ call));
+  ways = λ test so.
+      ap (λ (i : Option Instr). list_all (λ edge. test edge.target) (edges_at image t point state i)) is
+      ∙ on-pass image t point state instr inside within plain on test so;
 }
 
-pub views-none : (image : Image) (t : Numbered) (views : List PointView) → views ≡ [] → AreViews image t 0 views
+-- ---- lists of what is seen
+
+got-before : {A : Type 0} (xs ys : List A) (n : ℕ) → n < length xs → slice_get (xs ++ ys) n ≡ slice_get xs n
+got-before [] ys n less = absurd (omega (arith, less))
+got-before (x ∷ xs) ys zero less = refl
+got-before (x ∷ xs) ys (suc n) less = got-before xs ys n (omega (arith, less))
+
+got-last : {A : Type 0} (xs : List A) (x : A) → slice_get (xs ++ x ∷ []) (length xs) ≡ Some x
+got-last [] x = refl
+got-last (y ∷ xs) x = got-last xs x
+
+-- what is among others stays where more come after them
+got-longer : {A : Type 0} (xs ys : List A) (n : ℕ) (x : A) → slice_get xs n ≡ Some x → slice_get (xs ++ ys) n ≡ Some x
+got-longer xs ys n x at = got-before xs ys n (slice_get_within xs n x at) ∙ at
+
+by-place : (seen more : List SeenPoint) (place : ℕ) (o : Option SeenPoint) → slice_get seen place ≡ o
+    → option_map_or Seen o Unknown ≢ Unknown → whole_view (seen ++ more) (Some (short.Seen place)) ≡ option_map_or Seen o Unknown
+by-place seen more place None at known = absurd (known refl)
+by-place seen more place (Some v) at known = ap (λ (o : Option SeenPoint). option_map_or Seen o Unknown) (got-longer seen more place v at)
+
+whole-longer : (seen more : List SeenPoint) (o : Option ShortView) → whole_view seen o ≢ Unknown → whole_view (seen ++ more) o ≡ whole_view seen o
+whole-longer seen more None known = refl
+whole-longer seen more (Some short.Unknown) known = refl
+whole-longer seen more (Some short.Unclear) known = refl
+whole-longer seen more (Some short.GoesOn) known = refl
+whole-longer seen more (Some (short.Seen place)) known =
+    by-place seen more place (slice_get seen place) refl known
+
+-- one more view, with what is seen there
+pub longer : (old new : PointViews) (s : ShortView) (more : List SeenPoint) (v : PointView) → new.points.items ≡ old.points.items ++ s ∷ []
+    → new.seen.items ≡ old.seen.items ++ more → whole_view new.seen.items (Some s) ≡ v → IsLonger old new v
+longer old new s more v points seen is = record {
+  count = ap length points ∙ length-append old.points.items (s ∷ []);
+  last =
+      ap (λ (l : List ShortView). whole_view new.seen.items (slice_get l (length old.points.items))) points
+      ∙ ap (whole_view new.seen.items) (got-last old.points.items s) ∙ is;
+  others = λ point less known.
+      ap (λ (l : List ShortView). whole_view new.seen.items (slice_get l point)) points
+      ∙ ap (whole_view new.seen.items) (got-before old.points.items (s ∷ []) point less)
+      ∙ ap (λ (l : List SeenPoint). whole_view l (slice_get old.points.items point)) seen
+      ∙ whole-longer old.seen.items more (slice_get old.points.items point) known;
+}
+
+-- what is seen of a point is still so
+kept-view : (image : Image) (t : Numbered) (point : ℕ) (known : Noted) (old new : PointView) → (old ≢ Unknown → new ≡ old)
+    → IsView image t point known old → IsView image t point known new
+kept-view image t point (Known state) Unknown new same is = absurd is
+kept-view image t point (Known state) Unclear new same is =
+    subst (IsViewOf image t point state) (sym (same (λ clash. let no : ◌≡◌ {A = PointView} Unclear Unknown = clash in cc))) is
+kept-view image t point (Known state) GoesOn new same is =
+    subst (IsViewOf image t point state) (sym (same (λ clash. let no : ◌≡◌ {A = PointView} GoesOn Unknown = clash in cc))) is
+kept-view image t point (Known state) (Seen v) new same is =
+    subst (IsViewOf image t point state) (sym (same (λ clash. let no : ◌≡◌ {A = PointView} (Seen v) Unknown = clash in cc))) is
+kept-view image t point Missing old new same is = tt
+kept-view image t point Unmeasured old new same is = tt
+
+pub views-next : (image : Image) (t : Numbered) (count : ℕ) (views new : PointViews) (v : PointView) → AreViews image t count views
+    → IsView image t count (noted image t count) v → IsLonger views new v → AreViews image t (count + 1) new
+views-next image t count views new v are is grown = record {
+  long = grown.count ∙ ap (λ n. n + 1) are.long;
+  each = λ point less. elim (nat-cases point count (omega (arith, less))) [
+    | inl before ↦
+        let within : point < count_of views = subst (λ n. point < n) (sym are.long) before in
+        kept-view image t point (noted image t point) (view_at views point) (view_at new point) (grown.others point within) (are.each point before)
+    | inr same ↦
+        subst (λ n. IsView image t n (noted image t n) (view_at new n)) (sym same)
+        (subst (IsView image t count (noted image t count)) (sym (ap (view_at new) (sym are.long) ∙ grown.last)) is)
+  ];
+}
+  where
+    nat-cases : (m n : ℕ) → m ≤ n → (m < n) ⊎ (m ≡ n)
+    nat-cases zero zero le = inr refl
+    nat-cases zero (suc n) le = inl (omega arith)
+    nat-cases (suc m) zero le = absurd (omega (arith, le))
+    nat-cases (suc m) (suc n) le = elim (nat-cases m n (omega (arith, le))) [
+      | inl less ↦ inl (omega (arith, less))
+      | inr same ↦ inr (ap suc same)
+    ]
+
+pub views-none : (image : Image) (t : Numbered) (views : PointViews) → views.points.items ≡ [] → AreViews image t 0 views
 views-none image t views is = record {
   long = ap length is;
-  each = λ point v at. absurd (none-some v (ap (λ (l : List PointView). slice_get l point) (sym is) ∙ at));
+  each = λ point less. absurd (omega (arith, less));
 }

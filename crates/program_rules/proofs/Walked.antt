@@ -4,16 +4,17 @@ use Rattle.model.specs.Acceptance.NotedStates.{NotedSlot}
 use Rattle.model.specs.Images.Described.{Numbered}
 use Rattle.model.specs.Images.Image.{Image, Thread}
 use Rattle.model.specs.declared.refusals.Refusal.{Refusal}
+use Rattle.part_roots.proofs.Laws.{rooted-grown}
+use Rattle.part_roots.specs.Rooted.{AreRooted}
+use Rattle.part_roots.specs.declared.part_roots.PartRoots.{PartRoots}
 use Rattle.program_rules.proofs.MappedSoFar.{found-grown, still-found}
 use Rattle.program_rules.proofs.Outcomes.{follows-from}
-use Rattle.program_rules.proofs.ShownParts.{same-grown, some-grown}
+use Rattle.program_rules.proofs.ShownParts.{some-grown}
 use Rattle.program_rules.specs.FoundPages.{AreMapped}
 use Rattle.program_rules.specs.Kept.{IsRead}
-use Rattle.program_rules.specs.SameParts.{AreSame}
 use Rattle.program_rules.specs.Walks.{AreWalked, GoesAlong}
 use Rattle.program_rules.specs.declared.kept_points.KeptPoints.{KeptPoints}
 use Rattle.program_rules.specs.declared.point_rules.found_pages.FoundPages.{FoundPages}
-use Rattle.program_rules.specs.declared.same_parts.SameParts.{SameParts}
 use Rattle.program_rules.specs.declared.walks.Walk.{Walk}
 use Rattle.typestate.specs.Logs.{Holds, KeepsParts, ShowsSome, part_of}
 use Rattle.typestate.specs.Replays.{replayed}
@@ -27,7 +28,7 @@ along-grown image t slots old new walk keeps along = record {
   shown = some-grown old new walk.shown keeps along.shown;
   aside = some-grown old new walk.aside keeps along.aside;
   left = some-grown old new walk.left keeps along.left;
-  same = same-grown slots old new walk.same keeps along.same;
+  rooted = rooted-grown slots old new walk.roots keeps along.rooted;
   found = found-grown image t slots old new walk.found keeps along.found;
 }
 
@@ -38,7 +39,7 @@ shown-along image t slots log walk shown shows along = record {
   shown = shows;
   aside = along.aside;
   left = along.left;
-  same = along.same;
+  rooted = along.rooted;
   found = along.found;
 }
 
@@ -50,7 +51,7 @@ along-found image t slots log part all walk found held same is mapped along = re
   shown = along.shown;
   aside = along.aside;
   left = along.left;
-  same = along.same;
+  rooted = along.rooted;
   found = still-found image t slots log part found held is (subst (λ (s : List NotedSlot). AreMapped image t s found) same mapped);
 }
 
@@ -65,19 +66,20 @@ walked-call image t slots old new kept walk shown (Ok x) keeps shows read along 
 }
 walked-call image t slots old new kept walk shown (Err refusal) keeps shows read along = tt
 
--- after the ways on, on which parts are found that leave the same slots
-pub walked-ways : (image : Image) (t : Numbered) (slots : List NotedSlot) (log : List LogEntry) (kept : KeptPoints) (walk : Walk) (same : SameParts)
-    (result : Result (Unit {0}) Refusal) → IfOk result (λ _. AreSame slots log same) → IsRead image t slots log kept → GoesAlong image t.thread slots log walk
-    → IfOk result (λ _. AreWalked image t slots log kept (record walk { same = same }))
-walked-ways image t slots log kept walk same result are read along =
-    follows-from (λ _. AreSame slots log same) (λ _. AreWalked image t slots log kept (record walk { same = same })) result
-    (λ _ same_parts. record {
+-- after the ways on, on which the roots of parts are asked
+pub walked-ways : (image : Image) (t : Numbered) (slots : List NotedSlot) (log : List LogEntry) (kept : KeptPoints) (walk : Walk) (roots : PartRoots)
+    (result : Result (Unit {0}) Refusal) → IfOk result (λ _. AreRooted slots log roots) → IsRead image t slots log kept
+    → GoesAlong image t.thread slots log walk
+    → IfOk result (λ _. AreWalked image t slots log kept (record walk { roots = roots }))
+walked-ways image t slots log kept walk roots result are read along =
+    follows-from (λ _. AreRooted slots log roots) (λ _. AreWalked image t slots log kept (record walk { roots = roots })) result
+    (λ _ are_rooted. record {
       read = read;
       along = record {
         shown = along.shown;
         aside = along.aside;
         left = along.left;
-        same = same_parts;
+        rooted = are_rooted;
         found = along.found;
       };
     })

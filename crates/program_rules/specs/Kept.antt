@@ -253,12 +253,16 @@ abbrev pub before : Image → Numbered → ℕ → Noted
 before image t zero = Missing
 before image t (suc point) = follows image t point (noted image t point)
 
--- the points up to this one, the last of them by itself, and what is left for it, if it has no record
+-- what is kept for a point by the one before it, if it has no record
+pub record IsLeft (image : Image) (t : Numbered) (slots : List NotedSlot) (log : List LogEntry) (point : ℕ) (k : Kept) : Type 0 where
+  pub same : record_of t.thread point ≡ None → noted_by slots log k ≡ before image t point
+  pub sound : IsSound log point k
+  pub clean : IsCleanIn image t.thread slots log k
+
+-- the points up to this one, the last of them by itself, and what is left for it
 pub record IsReadTo (image : Image) (t : Numbered) (slots : List NotedSlot) (point : ℕ) (log : List LogEntry) (kept : KeptPoints)
     (previous derived : Kept) : Type 0 where
   pub count : length kept.places.items ≡ point
   pub noted : AreKept image t slots log kept
   pub last : (before : ℕ) → before + 1 ≡ point → IsKeptAt image t slots log before previous
-  pub same : record_of t.thread point ≡ None → noted_by slots log derived ≡ before image t point
-  pub sound : IsSound log point derived
-  pub clean : IsCleanIn image t.thread slots log derived
+  pub left : IsLeft image t slots log point derived

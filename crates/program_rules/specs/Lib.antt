@@ -1,6 +1,5 @@
 pub mod Left
 pub mod Kept
-pub mod SameParts
 pub mod FoundPages
 pub mod Programs
 pub mod PointChecks

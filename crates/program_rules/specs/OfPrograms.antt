@@ -13,7 +13,7 @@ use Rattle.program_rules.specs.Walks.{AreWalked, GoesAlong}
 use Rattle.program_rules.specs.declared.kept.Known.{Known as State}
 use Rattle.program_rules.specs.declared.points.Points.{Points}
 use Rattle.program_rules.specs.declared.programs.Program.{Program}
-use Rattle.program_rules.specs.declared.views.PointView.{PointView}
+use Rattle.program_rules.specs.declared.views.PointViews.{PointViews}
 use Rattle.program_rules.specs.declared.views.ProgramView.{ProgramView}
 use Rattle.program_rules.specs.declared.walks.Walk.{Walk}
 use Rattle.thread_spaces.specs.declared.given_threads.GivenThread.{GivenThread}
@@ -64,7 +64,7 @@ abbrev pub AreWalkedFor : Program → Points → Walk → Type 0
 AreWalkedFor p points walk = AreWalked p.given.space.image.now (thread_of p) p.given.slots.now points.log points.kept walk
 
 -- what is seen of the points
-abbrev pub AreViewsFor : Program → List PointView → Type 0
+abbrev pub AreViewsFor : Program → PointViews → Type 0
 AreViewsFor p views = AreViews p.given.space.image.now (thread_of p) p.given.space.thread.now.header.words views
 
 -- ---- a point of it
@@ -112,7 +112,7 @@ abbrev pub rules_given : GivenThread → List Rule
 rules_given g = rules_of_program g.space.image.now (thread_given g)
 
 -- what is seen of the points of its program
-abbrev pub AreViewsGiven : GivenThread → List PointView → Type 0
+abbrev pub AreViewsGiven : GivenThread → PointViews → Type 0
 AreViewsGiven g views = AreViews g.space.image.now (thread_given g) g.space.thread.now.header.words views
 
 -- ---- a thread, with the places of the objects of its image

@@ -1,25 +1,15 @@
 -- What is said of the points of a program each of which is read, so that contracts name them alone.
 use Rattle.std.specs.Prelude.{ℕ, Option}
-use Rattle.model.specs.Acceptance.PointStates.{Noted, follows, instruction_at, noted}
+use Rattle.model.specs.Acceptance.PointStates.{Noted, follows, instruction_at}
 use Rattle.model.specs.declared.instructions.Instr.{Instr}
-use Rattle.program_rules.specs.Kept.{IsCleanIn, IsKeptAt, Kept, noted_by, state_by}
+use Rattle.program_rules.specs.Kept.{IsCleanIn, IsKeptAt, Kept, noted_by}
 use Rattle.program_rules.specs.Programs.{thread_of}
-use Rattle.program_rules.specs.Views.{IsSeen, IsView}
-use Rattle.program_rules.specs.declared.kept.Known.{Known as State}
 use Rattle.program_rules.specs.declared.read_points.ReadPoint.{ReadPoint}
 use Rattle.program_rules.specs.declared.read_points.ReadPoints.{ReadPoints}
-use Rattle.program_rules.specs.declared.views.PointView.{PointView}
-use Rattle.program_rules.specs.declared.views.SeenPoint.{SeenPoint}
-use Rattle.typestate.specs.Logs.{ShowsSome}
-use Rattle.typestate.specs.declared.logs.ShownPart.{ShownPart}
 
 -- what is kept of one of them is what the certificate notes of it
 abbrev pub IsKeptIn : ReadPoints → ℕ → Kept → Type 0
 IsKeptIn r point k = IsKeptAt r.program.now.given.space.image.now (thread_of r.program.now) r.program.now.given.slots.now r.points.now.log point k
-
--- some part of their log is shown
-abbrev pub ShowsSomeIn : ReadPoints → ShownPart → Type 0
-ShowsSomeIn r shown = ShowsSome r.points.now.log shown
 
 -- ---- one of them
 
@@ -42,15 +32,3 @@ left_read h here = follows h.read.program.now.given.space.image.now (thread_of h
 abbrev pub IsCleanRead : ReadPoint → Kept → Type 0
 IsCleanRead h k =
     IsCleanIn h.read.program.now.given.space.image.now h.read.program.now.given.space.thread.now h.read.program.now.given.slots.now h.read.points.now.log k
-
--- what is seen of it in a state
-abbrev pub IsSeenRead : ReadPoint → State → SeenPoint → Type 0
-IsSeenRead h k v =
-    IsSeen h.read.program.now.given.space.image.now (thread_of h.read.program.now) h.point
-    (state_by h.read.program.now.given.slots.now h.read.points.now.log k) v
-
--- what is seen of it
-abbrev pub IsViewRead : ReadPoint → PointView → Type 0
-IsViewRead h =
-    IsView h.read.program.now.given.space.image.now (thread_of h.read.program.now) h.point
-    (noted h.read.program.now.given.space.image.now (thread_of h.read.program.now) h.point)

@@ -13,11 +13,13 @@ use Rattle.model.specs.declared.instructions.Instr.{Instr}
 use Rattle.model.specs.declared.ranges.Range.{Range}
 use Rattle.model.specs.declared.refusals.Refusal.{Refusal}
 use Rattle.program_rules.specs.FoundPages.{AreMapped}
-use Rattle.program_rules.specs.Kept.{IsCleanBehind, IsKeptAt, IsLookedAt, IsNextAt, Kept, noted_by, state_by}
+use Rattle.program_rules.specs.Kept.{IsCleanBehind, IsKeptAt, IsLeft, IsLookedAt, IsNextAt, Kept, ShowsKept, noted_by, state_by}
 use Rattle.program_rules.specs.OfPrograms.{AreRead}
 use Rattle.program_rules.specs.PointChecks.{later_rules, own_rules, way_rules}
 use Rattle.program_rules.specs.Programs.{thread_of}
-use Rattle.program_rules.specs.SameParts.{AreSame}
+use Rattle.program_rules.specs.Views.{IsView}
+use Rattle.part_roots.specs.Rooted.{AreRooted}
+use Rattle.part_roots.specs.declared.part_roots.PartRoots.{PartRoots}
 use Rattle.program_rules.specs.declared.at_points.AtPoint.TheVariants as kept
 use Rattle.program_rules.specs.declared.kept.Known.{Known as State}
 use Rattle.program_rules.specs.declared.kept_points.KeptPoints.{KeptPoints}
@@ -25,8 +27,8 @@ use Rattle.program_rules.specs.declared.places.Place.{Place}
 use Rattle.program_rules.specs.declared.point_rules.found_pages.FoundPages.{FoundPages}
 use Rattle.program_rules.specs.declared.point_rules.ways.Way.{Way}
 use Rattle.program_rules.specs.declared.points.Points.{Points}
-use Rattle.program_rules.specs.declared.same_parts.SameParts.{SameParts}
 use Rattle.program_rules.specs.declared.space_rules.Called.{Called}
+use Rattle.program_rules.specs.declared.views.PointView.{PointView}
 use Rattle.program_rules.specs.declared.visits.PlainPoint.{PlainPoint}
 use Rattle.program_rules.specs.declared.visits.Seen.{Seen}
 use Rattle.program_rules.specs.declared.visits.Visit.{Visit}
@@ -69,9 +71,26 @@ abbrev pub IsLookedAtHere : Visit → List LogEntry → ShownPart → Kept → T
 IsLookedAtHere v log shown k =
     IsLookedAt v.program.now.given.space.image.now v.program.now.given.space.thread.now v.program.now.given.slots.now log v.point shown k
 
+-- what is kept for it by the point before it
+abbrev pub IsLeftHere : Visit → List LogEntry → Kept → Type 0
+IsLeftHere v log k = IsLeft v.program.now.given.space.image.now (thread_of v.program.now) v.program.now.given.slots.now log v.point k
+
+-- what is kept of it beside a log is what the certificate notes of it
+abbrev pub IsKeptBy : Visit → List LogEntry → Kept → Type 0
+IsKeptBy v log k = IsKeptAt v.program.now.given.space.image.now (thread_of v.program.now) v.program.now.given.slots.now log v.point k
+
+-- and the slots of its state are shown
+pub record IsReachedHere (v : Visit) (log : List LogEntry) (shown : ShownPart) (k : Kept) : Type 0 where
+  pub kept : IsKeptBy v log k
+  pub shows : ShowsKept log shown k
+
 -- what is kept of it, after what is kept of the point before it
 abbrev pub IsNextHere : Visit → KeptPoints → Kept → Kept → Place → Type 0
 IsNextHere v new last k place = IsNextAt v.program.now.given.space.thread.now new last v.point k place
+
+-- what is seen of it
+abbrev pub IsViewHere : Visit → PointView → Type 0
+IsViewHere v = IsView v.program.now.given.space.image.now (thread_of v.program.now) v.point (noted_here v)
 
 -- ---- what follows from its state
 
@@ -150,9 +169,9 @@ noted_seen s k = noted_by s.program.now.given.slots.now s.points.now.log k
 abbrev pub noted_from : Seen → ℕ → Noted
 noted_from s address = noted_at s.program.now.given.space.image.now (thread_of s.program.now) address
 
--- parts that leave the same slots
-abbrev pub AreSameSeen : Seen → SameParts → Type 0
-AreSameSeen s same = AreSame s.program.now.given.slots.now s.points.now.log same
+-- roots of parts say what slots these leave
+abbrev pub AreRootedSeen : Seen → PartRoots → Type 0
+AreRootedSeen s roots = AreRooted s.program.now.given.slots.now s.points.now.log roots
 
 -- the rules on a way on to an address, after which registers are what a form says
 abbrev pub rules_to : Seen → Way → (ℕ → Form) → ℕ → List Rule
@@ -178,6 +197,6 @@ ways_rules_at p = rules_on_edges p.visit.program.now.given.space.image.now (thre
 abbrev pub taken_at : PlainPoint → Option Edge
 taken_at p = (after (address_here p.visit) p.instr p.known.now.bounds).taken
 
--- parts that leave the same slots
-abbrev pub AreSameAt : PlainPoint → SameParts → Type 0
-AreSameAt p same = AreSame p.visit.program.now.given.slots.now p.points.now.log same
+-- roots of parts say what slots these leave
+abbrev pub AreRootedAt : PlainPoint → PartRoots → Type 0
+AreRootedAt p roots = AreRooted p.visit.program.now.given.slots.now p.points.now.log roots

@@ -5,7 +5,7 @@ use Rattle.model.specs.Images.Described.{Numbered}
 use Rattle.model.specs.Images.Image.{Image, Thread}
 use Rattle.program_rules.specs.FoundPages.{AreFound}
 use Rattle.program_rules.specs.Kept.{IsRead}
-use Rattle.program_rules.specs.SameParts.{AreSame}
+use Rattle.part_roots.specs.Rooted.{AreRooted}
 use Rattle.program_rules.specs.declared.kept_points.KeptPoints.{KeptPoints}
 use Rattle.program_rules.specs.declared.walks.Walk.{Walk}
 use Rattle.typestate.specs.Logs.{ShowsSome}
@@ -16,7 +16,7 @@ pub record GoesAlong (image : Image) (t : Thread) (slots : List NotedSlot) (log 
   pub shown : ShowsSome log walk.shown
   pub aside : ShowsSome log walk.aside
   pub left : ShowsSome log walk.left
-  pub same : AreSame slots log walk.same
+  pub rooted : AreRooted slots log walk.roots
   pub found : AreFound image t slots log walk.found
 
 -- all points, with what goes along over them

@@ -12,11 +12,11 @@ ghost use Rattle.wellformed.specs.Answering.{Answers};
 use crate::kept::Known;
 use crate::point_rules::{Way, registers_of};
 use crate::points::Points;
-use crate::same_parts::SameParts;
 use crate::space_rules::Called;
 use crate::visits::{Seen, Visit, VisitedSlots};
 use measure::AfterCall;
 use model::Refusal;
+use part_roots::PartRoots;
 use typestate::{Behind, LogEntry, ShownPart};
 
 impl Seen<'_, '_, '_, '_, '_> {
@@ -38,8 +38,9 @@ impl Seen<'_, '_, '_, '_, '_> {
         };
         let next = self.program.address(point) + 4;
         let program = self.program;
-        let mut same = SameParts::new(program.alloc);
-        self.way_to(&way, &step, next, &mut same)
+        // Each is compared with the slots of a record, and so of one part alone.
+        let mut roots = PartRoots::new(program.alloc)?;
+        self.way_to(&way, &step, next, &mut roots)
     }
 }
 

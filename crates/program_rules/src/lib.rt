@@ -2,6 +2,7 @@
 //! first rule that is broken, of all threads in their order.
 #![tactic(auto)]
 
+mod asked_parts;
 mod at_points;
 mod call_checks;
 mod called_points;
@@ -18,7 +19,6 @@ mod points_checks;
 mod programs;
 mod read_points;
 mod records;
-mod same_parts;
 mod space_rules;
 mod views;
 mod visits;
@@ -28,4 +28,4 @@ mod ways;
 pub use at_points::AtPoint;
 pub use checking::check_programs;
 pub use point_rules::{Left, follows, follows_call, registers_of};
-pub use views::{PointView, ProgramView, SeenPoint, views_of_programs};
+pub use views::{PointView, PointViews, ProgramView, SeenPoint, view_of, views_of_programs};

@@ -6,6 +6,7 @@ ghost use Rattle.model.specs.Acceptance.PointStates as states;
 ghost use Rattle.model.specs.Images.Image.{Image, Thread};
 ghost use Rattle.program_rules.specs.Kept.{IsCleanIn, IsSound, noted_by};
 ghost use Rattle.program_rules.specs.OfPrograms.{AreRead, IsReadFor};
+ghost use Rattle.program_rules.specs.Visits.{IsLeftHere, IsReachedHere};
 ghost use Rattle.typestate.specs.Logs.{KeepsParts, ShowsSome};
 ghost use Rattle.typestate.specs.Orders.{Rise};
 
@@ -69,6 +70,28 @@ fn note_own(
     }
 }
 
+impl Visit<'_, '_, '_, '_> {
+    /// Makes of what the point before leaves what is kept of this one: the state of its record, if it has one. Its slots are shown, in
+    /// place of others, and looked at. Memory may be refused.
+    pub(crate) fn reach(
+        &self,
+        kept: &mut AtPoint<Known>,
+        log: &mut SlotLog,
+        shown: &mut ShownPart,
+    ) -> Result<(), AllocError>
+        requires left { IsLeftHere self.now log.old kept.old }
+        requires shown { ShowsSome log.old shown.old }
+        ensures reached { IfOk result (λ _. IsReachedHere self.now log.new shown.new kept.new) }
+        ensures shown { IfOk result (λ _. ShowsSome log.new shown.new) }
+        ensures others { IfOk result (λ _. KeepsParts log.old log.new) }
+    {
+        note_own(log, self.noted, kept)?;
+        kept.show(log, shown)?;
+        self.look(kept, log, shown);
+        Ok(())
+    }
+}
+
 impl<'a> Points<'a> {
     /// Notes the next point by its record, or by what the point before leaves, which is kept in place of that one then; and what it
     /// leaves in turn, if no record notes the point after it. Memory may be refused.
@@ -84,9 +107,7 @@ impl<'a> Points<'a> {
         ensures read { IfOk result (λ _. IsReadFor visit.now.program.now (visit.now.point + 1) self.new last.new derived.new) }
         ensures shown { IfOk result (λ _. ShowsSome self.new.log shown.new) }
     {
-        note_own(&mut self.log, visit.noted, derived)?;
-        derived.show(&self.log, shown)?;
-        visit.look(derived, &self.log, shown);
+        visit.reach(derived, &mut self.log, shown)?;
         self.kept.push(visit, last, derived)?;
         *last = *derived;
         visit.pass(derived, &mut self.log, shown)?;

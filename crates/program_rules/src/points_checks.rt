@@ -56,7 +56,7 @@ impl<'a> Visit<'_, '_, 'a, '_> {
                     known,
                     instr,
                 };
-                plain.ways_rules(&mut walk.same)
+                plain.ways_rules(&mut walk.roots)
             }
             None => Ok(()),
         }
@@ -168,7 +168,8 @@ impl<'a> Program<'a, '_> {
         ensures { Answers (first_broken (rules_for self.now)) result }
     {
         let (mut points, left) = Points::of(self)?;
-        let mut walk = Walk::new(self.alloc, left);
+        let roots = self.roots(&points)?;
+        let mut walk = Walk::new(self.alloc, left, roots);
         let outcome = self.points_rules(&mut points, &mut walk);
         // By one call, in place of one for each of its maps.
         drop(walk);

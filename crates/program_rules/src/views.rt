@@ -1,14 +1,17 @@
 //! What is seen of the points of programs by who does not ask for their rules: what a system call names, and where the ways on lead.
 
-ghost use Rattle.std.specs.Prelude.{◌≡◌, ◌≢◌, IfErr, IfOk, Some, option_map};
+ghost use Rattle.std.specs.Prelude.{◌≡◌, ◌≢◌, IfErr, IfOk, Some, length, option_map};
 ghost use Rattle.model.specs.Acceptance.Accepted.{IsWellFormed};
 ghost use Rattle.model.specs.Acceptance.Measures.{Measure};
+ghost use Rattle.model.specs.Images.Described.{Numbered};
+ghost use Rattle.model.specs.Images.Image.{Image};
 ghost use Rattle.model.specs.Images.Places.{offset_of};
 ghost use Rattle.model.specs.declared.instructions.Instr.TheVariants.{Ecall};
+ghost use Rattle.model.specs.declared.instructions.Instr.{Instr as RuleInstr};
 ghost use Rattle.model.specs.declared.refusals.Refusal.TheVariants.{OutOfMemory};
 ghost use Rattle.program_rules.specs.OfPrograms.{AreViewsFor, AreViewsGiven, IsViewPlaced};
-ghost use Rattle.program_rules.specs.Reads.{IsKeptRead, IsSeenRead, IsViewRead, ShowsSomeIn};
-ghost use Rattle.program_rules.specs.Views.{AreProgramViews, capability_seen};
+ghost use Rattle.program_rules.specs.Views.{AreProgramViews, AreViews, IsLonger, capability_seen, count_of, is_on, view_at};
+ghost use Rattle.program_rules.specs.Visits.{IsKeptBy, IsReachedHere, IsViewHere};
 ghost use Rattle.program_rules.specs.declared.at_points.AtPoint.TheVariants as kept;
 ghost use Rattle.typestate.specs.Calls.{known_with};
 ghost use Rattle.typestate.specs.Differences.{slots_of};
@@ -17,10 +20,10 @@ ghost use Rattle.typestate.specs.Spaces.{NothingLeadsOutside};
 
 use crate::at_points::AtPoint;
 use crate::kept::Known;
+use crate::notes::RecordsLeft;
 use crate::point_rules::runs_of;
-use crate::points::Points;
 use crate::programs::Program;
-use crate::read_points::{ReadPoint, ReadPoints};
+use crate::visits::Visit;
 use cspace::called_slot;
 use format_laws::{certificates_that_fit_keep_their_limits, images_that_fit_keep_their_limits};
 use image_reading::ImageRef;
@@ -33,7 +36,7 @@ use thread_spaces::{
     GivenThread, PlacedImage, PlacedThread, ThreadParts, offsets_of, programs_have_their_places,
     promises_of,
 };
-use typestate::{NotedSlots, OwnSlots, PlacedPromises, ShownPart, Space};
+use typestate::{NotedSlots, OwnSlots, PlacedPromises, ShownPart, SlotLog, Space};
 
 /// What is seen of a point with a state.
 #[derive(Clone, Copy)]
@@ -55,7 +58,25 @@ pub enum PointView {
     Unknown,
     /// Some slot there may be one that the thread may not have: no accepted program has such a point.
     Unclear,
+    /// It is no system call, and its way leads to the next point.
+    GoesOn,
     Seen(SeenPoint),
+}
+
+/// The same in few bytes: what is seen is among others, here by its place.
+#[derive(Clone, Copy, Drop)]
+enum ShortView {
+    Unknown,
+    Unclear,
+    GoesOn,
+    Seen(u32),
+}
+
+/// What is seen of the points of a program, one after another.
+#[derive(Drop)]
+pub struct PointViews {
+    points: Vec<ShortView>,
+    seen: Vec<SeenPoint>,
 }
 
 /// What is seen of a thread and of its program.
@@ -67,7 +88,69 @@ pub struct ProgramView {
     /// The offset of its control block from the start of physical memory.
     pub tcb: u32,
     /// Of each point of its program.
-    pub points: Vec<PointView>,
+    pub points: PointViews,
+}
+
+impl PointViews {
+    /// Of no point yet.
+    fn new(alloc: Global) -> Self
+        ensures { (image : Image) (t : Numbered) → AreViews image t 0 result }
+    {
+        PointViews {
+            points: Vec::new(alloc),
+            seen: Vec::new(alloc),
+        }
+    }
+
+    /// How many points there are.
+    pub fn len(&self) -> usize
+        ensures { result ≡ count_of self.now }
+    {
+        self.points.len()
+    }
+
+    /// What is seen of a point: nothing of one that there is not.
+    pub fn at(&self, point: usize) -> PointView
+        ensures { result ≡ view_at self.now point }
+    {
+        match self.points.get(point) {
+            Some(ShortView::Unclear) => PointView::Unclear,
+            Some(ShortView::GoesOn) => PointView::GoesOn,
+            Some(ShortView::Seen(place)) => match self.seen.get(*place as usize) {
+                Some(seen) => PointView::Seen(*seen),
+                None => PointView::Unknown,
+            },
+            Some(ShortView::Unknown) | None => PointView::Unknown,
+        }
+    }
+
+    /// The place that the next point has which is seen.
+    fn next_place(&self) -> Result<u32, AllocError>
+        ensures { IfOk result (λ place. place ≡ length self.now.seen.items) }
+    {
+        match u32::try_from(self.seen.len()) {
+            Ok(place) => Ok(place),
+            Err(_) => Err(AllocError),
+        }
+    }
+
+    /// Adds what is seen of one more point. Memory may be refused.
+    fn push(&mut self, view: PointView) -> Result<(), AllocError>
+        ensures { IfOk result (λ _. IsLonger self.old self.new view) }
+    {
+        let short = match view {
+            PointView::Unknown => ShortView::Unknown,
+            PointView::Unclear => ShortView::Unclear,
+            PointView::GoesOn => ShortView::GoesOn,
+            PointView::Seen(seen) => {
+                let place = self.next_place()?;
+                self.seen.push(seen)?;
+                ShortView::Seen(place)
+            }
+        };
+        self.points.push(short)?;
+        Ok(())
+    }
 }
 
 /// Where a way leads, if there is one.
@@ -77,6 +160,19 @@ fn target_of(way: &Option<Edge>) -> Option<u32>
     match way {
         Some(way) => Some(way.target),
         None => None,
+    }
+}
+
+/// Whether an instruction that is no system call leads to the next one alone, whatever the registers hold.
+fn goes_on(instr: Instr) -> bool
+    ensures { result ≡ is_on instr }
+{
+    match instr {
+        Instr::Jal { .. } => false,
+        Instr::Jalr { .. } => false,
+        Instr::Branch { .. } => false,
+        Instr::Ebreak => false,
+        _ => true,
     }
 }
 
@@ -95,101 +191,97 @@ fn named(space: &Space<'_, '_>, slots: &NotedSlots<'_>, bounds: &Bounds) -> Cap
     }
 }
 
-impl ReadPoint<'_, '_, '_, '_> {
+impl Visit<'_, '_, '_, '_> {
     /// What is seen of the point, at an instruction that is no system call.
-    fn plain_view(&self, known: &Known, instr: Instr) -> SeenPoint
-        requires { self.now.instr ≡ Some instr }
-        ensures { instr ≢ Ecall → IsSeenRead self.now known.now result }
+    fn plain_view(&self, known: &Known, log: &SlotLog) -> PointView
+        requires { IsKeptBy self.now log.now (kept.Known known.now) }
+        ensures { (instr : RuleInstr) → self.now.instr ≡ Some instr → instr ≢ Ecall → IsViewHere self.now result }
     {
-        let ways = after(self.read.program.address(self.point), instr, &known.bounds);
-        SeenPoint {
+        let Some(instr) = self.instr else {
+            return PointView::Unknown;
+        };
+        if goes_on(instr) {
+            return PointView::GoesOn;
+        }
+        let ways = after(self.program.address(self.point), instr, &known.bounds);
+        PointView::Seen(SeenPoint {
             call: None,
             capability: Cap::Empty,
             taken: target_of(&ways.taken),
             next: target_of(&ways.fall_through),
-        }
+        })
     }
 
-    /// What is seen of the point at a system call. The part of the log that its slots have is shown for that, in place of another one.
-    fn call_view(&self, known: &Known, shown: &mut ShownPart) -> Result<PointView, AllocError>
-        requires kept { IsKeptRead self.now (kept.Known known.now) }
-        requires shown { ShowsSomeIn self.now.read shown.old }
-        ensures view { IfOk result (λ view. self.now.instr ≡ Some Ecall → IsViewRead self.now view) }
-        ensures shown { IfOk result (λ _. ShowsSomeIn self.now.read shown.new) }
+    /// What is seen of the point at a system call, with slots that are shown.
+    fn call_view(&self, known: &Known, log: &SlotLog, shown: &ShownPart) -> PointView
+        requires { IsReachedHere self.now log.now shown.now (kept.Known known.now) }
+        ensures { self.now.instr ≡ Some Ecall → IsViewHere self.now result }
     {
         if !known.is_clean {
-            return Ok(PointView::Unclear);
+            return PointView::Unclear;
         }
-        let program = self.read.program;
-        self.read.points.log.show(shown, known.part)?;
+        let program = self.program;
         let slots = shown.slots(program.given.slots);
-        Ok(PointView::Seen(SeenPoint {
+        PointView::Seen(SeenPoint {
             call: SystemCall::of_number(known.bounds.get(Register::A7).low),
             capability: named(&program.given.space, &slots, &known.bounds),
             taken: None,
             next: Some(program.address(self.point) + 4),
-        }))
+        })
     }
 
-    /// What is seen of the point.
-    fn view(&self, shown: &mut ShownPart) -> Result<PointView, AllocError>
-        requires { ShowsSomeIn self.now.read shown.old }
-        ensures view { IfOk result (IsViewRead self.now) }
-        ensures shown { IfOk result (λ _. ShowsSomeIn self.now.read shown.new) }
+    /// What is seen of the point, by what is kept of it.
+    fn view(&self, kept: &AtPoint<Known>, log: &SlotLog, shown: &ShownPart) -> PointView
+        requires { IsReachedHere self.now log.now shown.now kept.now }
+        ensures { IsViewHere self.now result }
     {
-        let AtPoint::Known(known) = self.read.at(self.point) else {
-            return Ok(PointView::Unknown);
+        let AtPoint::Known(known) = kept else {
+            return PointView::Unknown;
         };
         match self.instr {
-            Some(Instr::Ecall) => self.call_view(&known, shown),
-            Some(instr) => Ok(PointView::Seen(self.plain_view(&known, instr))),
-            None => Ok(PointView::Seen(SeenPoint {
+            Some(Instr::Ecall) => self.call_view(known, log, shown),
+            Some(_) => self.plain_view(known, log),
+            None => PointView::Seen(SeenPoint {
                 call: None,
                 capability: Cap::Empty,
                 taken: None,
                 next: None,
-            })),
+            }),
         }
     }
 }
 
-impl ReadPoints<'_, '_, '_, '_> {
-    /// What is seen of each point. Memory may be refused.
-    fn views(&self, shown: &mut ShownPart) -> Result<Vec<PointView>, AllocError>
-        requires { ShowsSomeIn self.now shown.old }
-        ensures { IfOk result (λ views. AreViewsFor self.now.program.now views.items) }
+impl Program<'_, '_> {
+    /// What is seen of each point of the program, one after another: of a point only what leads on is kept. Memory may be refused.
+    fn views(&self) -> Result<PointViews, AllocError>
+        ensures { IfOk result (AreViewsFor self.now) }
     {
-        let program = self.program;
-        let mut views = Vec::new(program.alloc);
-        'views: for point in 0..program.given.space.thread.word_count() {
-            let here = ReadPoint {
-                read: *self,
+        let mut records = RecordsLeft::of(self);
+        let mut log = SlotLog::new(self.alloc);
+        let mut shown = ShownPart::new(self.alloc);
+        let mut kept = AtPoint::Missing;
+        let mut views = PointViews::new(self.alloc);
+        'views: for point in 0..self.given.space.thread.word_count() {
+            let noted = records.take(point);
+            let is_next_noted = records.is_next(point + 1);
+            let visit = Visit {
+                program: self,
                 point,
-                instr: decode(program.given.space.thread.word(point)),
+                instr: decode(self.given.space.thread.word(point)),
+                noted: noted.as_ref(),
+                is_next_noted,
             };
-            views.push(here.view(shown)?)?;
+            visit.reach(&mut kept, &mut log, &mut shown)?;
+            views.push(visit.view(&kept, &log, &shown))?;
+            visit.pass(&mut kept, &mut log, &shown)?;
         }
         Ok(views)
     }
 }
 
-impl Program<'_, '_> {
-    /// What is seen of each point of the program. Memory may be refused.
-    fn views(&self) -> Result<Vec<PointView>, AllocError>
-        ensures { IfOk result (λ views. AreViewsFor self.now views.items) }
-    {
-        let (points, mut shown) = Points::of(self)?;
-        let read = ReadPoints {
-            program: self,
-            points: &points,
-        };
-        read.views(&mut shown)
-    }
-}
-
 /// What is seen of the points of a program, by what the image gives the thread.
-fn views_given(alloc: Global, given: GivenThread<'_, '_>) -> Result<Vec<PointView>, Refusal>
-    ensures views { IfOk result (λ views. AreViewsGiven given.entry views.items) }
+fn views_given(alloc: Global, given: GivenThread<'_, '_>) -> Result<PointViews, Refusal>
+    ensures views { IfOk result (AreViewsGiven given.entry) }
     ensures memory { IfErr result (λ refusal. refusal ≡ OutOfMemory) }
 {
     let image = given.space.image;
@@ -220,8 +312,12 @@ fn tcb_of(owner: &PlacedThread<'_, '_, '_, '_>) -> u32
     placed.offsets[owner.thread.header().tcb as usize]
 }
 
-/// What is seen of a thread.
-fn view_of<'a>(
+/// What is seen of a thread of a well-formed image, with the promises of that image.
+///
+/// # Errors
+///
+/// Memory may be refused.
+pub fn view_of<'a>(
     alloc: Global,
     promises: &PlacedPromises<'a>,
     owner: PlacedThread<'_, '_, '_, 'a>,

@@ -3,6 +3,7 @@
 ghost use Rattle.std.specs.Prelude.{List};
 ghost use Rattle.model.specs.Acceptance.NotedStates.{NotedSlot};
 ghost use Rattle.model.specs.Images.Image.{Image, Thread};
+ghost use Rattle.part_roots.specs.Rooted.{AreRooted};
 ghost use Rattle.program_rules.specs.Walks.{GoesAlong};
 ghost use Rattle.typestate.specs.Logs.{ShowsSome};
 ghost use Rattle.typestate.specs.declared.log_entries.LogEntry.{LogEntry};
@@ -10,7 +11,7 @@ ghost use Rattle.typestate.specs.declared.log_entries.LogEntry.{LogEntry};
 use crate::at_points::AtPoint;
 use crate::kept::Known;
 use crate::point_rules::FoundPages;
-use crate::same_parts::SameParts;
+use part_roots::PartRoots;
 use std::alloc::Global;
 use std::mem::swap;
 use typestate::ShownPart;
@@ -35,21 +36,22 @@ pub(crate) struct Walk {
     was_empty: bool,
     /// What was left of showing the points before.
     pub(crate) left: ShownPart,
-    pub(crate) same: SameParts,
+    pub(crate) roots: PartRoots,
     pub(crate) found: FoundPages,
 }
 
 impl Walk {
-    /// Nothing is shown or found so far, and this was left.
-    pub(crate) fn new(alloc: Global, left: ShownPart) -> Self
-        ensures { (image : Image) (t : Thread) (slots : List NotedSlot) (log : List LogEntry) → ShowsSome log left → GoesAlong image t slots log result }
+    /// Nothing is shown or found so far, this was left, and these are the roots of parts.
+    pub(crate) fn new(alloc: Global, left: ShownPart, roots: PartRoots) -> Self
+        ensures { (image : Image) (t : Thread) (slots : List NotedSlot) (log : List LogEntry) → ShowsSome log left → AreRooted slots log roots
+            → GoesAlong image t slots log result }
     {
         Walk {
             shown: ShownPart::new(alloc),
             aside: ShownPart::new(alloc),
             was_empty: false,
             left,
-            same: SameParts::new(alloc),
+            roots,
             found: FoundPages::new(alloc),
         }
     }

@@ -11,7 +11,7 @@ ghost use Rattle.model.specs.declared.ranges.Range.{Range};
 ghost use Rattle.program_rules.specs.Kept.{HasPart};
 ghost use Rattle.program_rules.specs.OfPrograms.{AreRead, words_of};
 ghost use Rattle.program_rules.specs.PointChecks.{IsBefore, is_branch};
-ghost use Rattle.program_rules.specs.Visits.{AreSameAt, AreSameSeen, address_here, broken_by, instruction_here, later_rules_here, noted_from};
+ghost use Rattle.program_rules.specs.Visits.{AreRootedAt, AreRootedSeen, address_here, broken_by, instruction_here, later_rules_here, noted_from};
 ghost use Rattle.program_rules.specs.Visits.{noted_here, noted_seen, rules_to, slots_at, slots_seen, taken_at, way_rules_here, ways_rules_at};
 ghost use Rattle.ranges.specs.Edges.{way_of};
 ghost use Rattle.typestate.specs.Logs.{Holds};
@@ -23,10 +23,10 @@ use crate::point_rules::{Way, kept_at, left_calls_are_kept, left_states_are_kept
 use crate::points::Points;
 use crate::programs::Program;
 use crate::read_points::ReadPoints;
-use crate::same_parts::SameParts;
 use crate::visits::{PlainPoint, Seen, Visit};
 use measure::{AfterInstruction, Step};
 use model::{Instr, Refusal};
+use part_roots::PartRoots;
 use ranges::{Bounds, Edge, after};
 use std::alloc::AllocError;
 use typestate::Part;
@@ -51,7 +51,7 @@ fn takes_no_way(instr: Instr) -> bool
 
 impl Program<'_, '_> {
     /// The point at an address, if the program has one there.
-    fn point_at(&self, address: u32) -> Option<u32>
+    pub(crate) fn point_at(&self, address: u32) -> Option<u32>
         ensures value { result ≡ point_at self.now.given.space.thread.now address }
         ensures within { IfSome result (λ point. point < words_of self.now) }
     {
@@ -84,17 +84,18 @@ impl Seen<'_, '_, '_, '_, '_> {
         }
     }
 
-    /// Whether the slots are those of another part. Those that were found to be are not compared again. Memory may be refused.
-    fn has_same_slots(&self, other: Part, same: &mut SameParts) -> Result<bool, AllocError>
+    /// Whether the slots are those of another part. They are compared only where the roots of the parts do not show it. Memory may be
+    /// refused.
+    fn has_same_slots(&self, other: Part, roots: &mut PartRoots) -> Result<bool, AllocError>
         requires held { Holds self.now.points.now.log other }
-        requires same { AreSameSeen self.now same.old }
+        requires rooted { AreRootedSeen self.now roots.old }
         ensures is { IfOk result (λ is. is ≡ are_same_slots (slots_seen self.now) (slots_at self.now other)) }
-        ensures same { IfOk result (λ _. AreSameSeen self.now same.new) }
+        ensures rooted { IfOk result (λ _. AreRootedSeen self.now roots.new) }
     {
         if self.part.is_same(other) {
             return Ok(true);
         }
-        if same.has(self.part, other) {
+        if roots.is_same(self.part, other)? {
             return Ok(true);
         }
         let points = self.points;
@@ -104,11 +105,7 @@ impl Seen<'_, '_, '_, '_, '_> {
         let theirs = there.slots(program.given.slots);
         let is_same = mine.is_same(&theirs);
         drop(there);
-        if !is_same {
-            return Ok(false);
-        }
-        same.note(self.part, other)?;
-        Ok(true)
+        Ok(is_same)
     }
 
     /// Whether a way on from these slots to an address keeps its rules. An `Err` names the first that it breaks, or says that memory
@@ -118,16 +115,16 @@ impl Seen<'_, '_, '_, '_, '_> {
         way: &Way<'_>,
         step: &S,
         address: u32,
-        same: &mut SameParts,
+        roots: &mut PartRoots,
     ) -> Result<(), Refusal>
-        requires same { AreSameSeen self.now same.old }
-        ensures same { IfOk result (λ _. AreSameSeen self.now same.new) }
+        requires rooted { AreRootedSeen self.now roots.old }
+        ensures rooted { IfOk result (λ _. AreRootedSeen self.now roots.new) }
         ensures answers { Answers (first_broken (rules_to self.now way.now (S.value_of step.now) address)) result }
     {
         let there = self.kept_at(address);
         match &there {
             AtPoint::Known(known) => {
-                let has_slots = self.has_same_slots(known.part, same)?;
+                let has_slots = self.has_same_slots(known.part, roots)?;
                 let program = self.program;
                 let budget = program.given.space.thread.header().budget;
                 kept_at(budget, way, step, known, has_slots)
@@ -162,9 +159,9 @@ impl Visit<'_, '_, '_, '_> {
 
 impl PlainPoint<'_, '_, '_, '_, '_, '_, '_> {
     /// The rules on a way on from the instruction.
-    fn way_rules(&self, way: &Edge, same: &mut SameParts) -> Result<(), Refusal>
-        requires { AreSameAt self.now same.old }
-        ensures same { IfOk result (λ _. AreSameAt self.now same.new) }
+    fn way_rules(&self, way: &Edge, roots: &mut PartRoots) -> Result<(), Refusal>
+        requires { AreRootedAt self.now roots.old }
+        ensures rooted { IfOk result (λ _. AreRootedAt self.now roots.new) }
         ensures answers { (edge : RuleEdge) → way_of edge ≡ way.now
             → edge.before ≡ (if is_branch self.now.instr then edge.ranges else self.now.known.now.bounds)
             → Answers (broken_by self.now (Some edge)) result }
@@ -184,26 +181,26 @@ impl PlainPoint<'_, '_, '_, '_, '_, '_, '_> {
             part: self.known.part,
             shown: self.shown,
         };
-        seen.way_to(&found, &step, way.target, same)
+        seen.way_to(&found, &step, way.target, roots)
     }
 
     /// The same, where there may be no such way.
-    fn option_rules(&self, way: &Option<Edge>, same: &mut SameParts) -> Result<(), Refusal>
-        requires { AreSameAt self.now same.old }
-        ensures same { IfOk result (λ _. AreSameAt self.now same.new) }
+    fn option_rules(&self, way: &Option<Edge>, roots: &mut PartRoots) -> Result<(), Refusal>
+        requires { AreRootedAt self.now roots.old }
+        ensures rooted { IfOk result (λ _. AreRootedAt self.now roots.new) }
         ensures answers { (edge : Option RuleEdge) → option_map way_of edge ≡ way.now → IsBefore self.now.instr self.now.known.now.bounds edge
             → Answers (broken_by self.now edge) result }
     {
         match way {
-            Some(way) => self.way_rules(way, same),
+            Some(way) => self.way_rules(way, roots),
             None => Ok(()),
         }
     }
 
     /// The rules on the taken way on.
-    fn taken_rules(&self, same: &mut SameParts) -> Result<(), Refusal>
-        requires { AreSameAt self.now same.old }
-        ensures same { IfOk result (λ _. AreSameAt self.now same.new) }
+    fn taken_rules(&self, roots: &mut PartRoots) -> Result<(), Refusal>
+        requires { AreRootedAt self.now roots.old }
+        ensures rooted { IfOk result (λ _. AreRootedAt self.now roots.new) }
         ensures answers { Answers (broken_by self.now (taken_at self.now)) result }
     {
         if takes_no_way(self.instr) {
@@ -211,21 +208,21 @@ impl PlainPoint<'_, '_, '_, '_, '_, '_, '_> {
         }
         let address = self.visit.program.address(self.visit.point);
         let ways = after(address, self.instr, &self.known.bounds);
-        self.option_rules(&ways.taken, same)
+        self.option_rules(&ways.taken, roots)
     }
 
     /// The rules on the ways on, the taken one first.
-    pub(crate) fn ways_rules(&self, same: &mut SameParts) -> Result<(), Refusal>
-        requires { AreSameAt self.now same.old }
-        ensures same { IfOk result (λ _. AreSameAt self.now same.new) }
+    pub(crate) fn ways_rules(&self, roots: &mut PartRoots) -> Result<(), Refusal>
+        requires { AreRootedAt self.now roots.old }
+        ensures rooted { IfOk result (λ _. AreRootedAt self.now roots.new) }
         ensures answers { Answers (first_broken (ways_rules_at self.now)) result }
     {
         if self.visit.leaves_next(self.points) {
-            return self.taken_rules(same);
+            return self.taken_rules(roots);
         }
         let address = self.visit.program.address(self.visit.point);
         let ways = after(address, self.instr, &self.known.bounds);
-        self.option_rules(&ways.taken, same)?;
-        self.option_rules(&ways.fall_through, same)
+        self.option_rules(&ways.taken, roots)?;
+        self.option_rules(&ways.fall_through, roots)
     }
 }

@@ -1,7 +1,6 @@
 -- By one thread more.
-use Rattle.std.proofs.Common.{◌≡◌, ◌∙◌, ◌<◌, List, [], length, sym, ap, subst, arith}
+use Rattle.std.proofs.Common.{◌≡◌, ◌∙◌, ◌<◌, length, sym, arith}
 use Rattle.std.proofs.lemmas.Option.{slice_get_within}
-use Rattle.model.specs.Images.Image.{Thread}
 use Rattle.program_rules.proofs.ViewedThreads.{made-all, made-first, made-next}
 use Rattle.program_rules.proofs.views.views_of_programs.Goals as goal
 use Rattle.wellformed.proofs.Laws.{head-of}

@@ -17,9 +17,7 @@ notes-init c =
         count = c.new.ensures.count;
         noted = c.new.ensures.kept image t c.args.program.now.given.slots.now log;
         last = λ last follows. absurd (omega (arith, follows));
-        same = λ none. refl;
-        sound = tt;
-        clean = tt;
+        left = record { same = λ none. refl; sound = tt; clean = tt };
       },
       subst (λ (rs : List StateRecord). AreLeft own 0 rs) (sym c.of-records.ensures) (all-left own c.args.program.now.fits),
       c.new-shown.ensures.shown log,

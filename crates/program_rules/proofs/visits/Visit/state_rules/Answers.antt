@@ -117,7 +117,7 @@ returns-in-Some-clause-walked c =
     (c.slots-slots.ensures.slots ∙ c.requires.here.shows.same p.given.slots.now p.given.sorted p.given.unlinked)
     (c.in_ok-own_rules.ensures.part ∙ c.go_on.ensures.part) c.in_ok-own_rules.ensures.found c.requires.along in
     walked-ways p.given.space.image.now (thread_of p) p.given.slots.now c.args.points.now.log c.args.points.now.kept
-    (record c.args.walk.now { found = c.own_rules.new.found }) c.ways_rules.new.same c.ways_rules.result c.ways_rules.ensures.same c.requires.here.read along
+    (record c.args.walk.now { found = c.own_rules.new.found }) c.ways_rules.new.roots c.ways_rules.result c.ways_rules.ensures.rooted c.requires.here.read along
 
 pub returns-in-Some-Ecall-clause-walked : goal.returns-in-Some-Ecall-clause-walked
 returns-in-Some-Ecall-clause-walked c =

@@ -8,6 +8,6 @@ returns c = λ image t slots log along.
       shown = c.turn-2.ensures.shown log shown along.left;
       aside = c.turn.ensures.aside log along.shown along.aside;
       left = c.turn-2.ensures.aside log shown along.left;
-      same = along.same;
+      rooted = along.rooted;
       found = along.found;
     }

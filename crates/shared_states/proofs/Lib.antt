@@ -1,0 +1,5 @@
+mod Held
+pub mod Laws
+mod Numbers
+mod PutValues
+mod StatesStay
