@@ -39,7 +39,7 @@ use Rattle.response.proofs.NamedNow.{asks-so}
 use Rattle.response.proofs.OthersMoved.{answered, as_it_was, gave, owed-runs, reached_by, rests-left, rung-reached, share, takers_in, worth}
 use Rattle.response.proofs.OwnCalls.{pc_at}
 use Rattle.response.proofs.OwnMessages.{elsewhere-status, ReceiveEnds, SendEnds, TakeEnds, sent_awaits, sent_passed, sent_queued, status_at, sent_stopped}
-use Rattle.response.proofs.OwnMessages.{got_one, got_word, stays_on, stays_there}
+use Rattle.response.proofs.OwnMessages.{got_one, got_word, stays-pc, stays_on, stays_there}
 use Rattle.response.proofs.ReachedPay.{moves-so, never-none, no_more, other-kept, quietly, reached-pay, rings, total-both, word-grown, words-kept}
 use Rattle.response.proofs.Rises.{none-some, one-some, rung_cost}
 use Rattle.response.proofs.Rung.{pended, rung_by}
@@ -306,12 +306,12 @@ module _ (laws : Laws) (bytes : List ℕ) (image : Image) (accepted : IsAccepted
         → SendEnds s (tcb_of image t) e is_call after → Falls
     by-ends is_call called queue_owes (sent_passed status pc) =
         let now = runs-now (ap is_runnable status) pc in passed-so (omega (arith, now))
-    by-ends is_call called queue_owes (sent_queued status pc q is nobody) =
-        let now = waits-now (Blocked e) status refl pc in
+    by-ends is_call called queue_owes (sent_queued status kept q is nobody) =
+        let now = waits-now (Blocked e) status refl (stays-pc s after (tcb_of image t) kept) in
         let owes = queue_owes (Blocked e) refl in
         queued-so q is nobody (omega (arith, now, owes))
-    by-ends is_call called queue_owes (sent_awaits y rest status pc is_caller first right) =
-        let now = waits-now AwaitsReply status refl pc in
+    by-ends is_call called queue_owes (sent_awaits y rest status kept is_caller first right) =
+        let now = waits-now AwaitsReply status refl (stays-pc s after (tcb_of image t) kept) in
         let owes : owed_as w (t.thread.header.budget + next) asked AwaitsReply ≡ t.thread.header.budget + next =
         ap (λ (a : Asked). owed_as w (t.thread.header.budget + next) a AwaitsReply) (called is_caller) in
         passed-so (omega (arith, now, owes))
@@ -454,7 +454,7 @@ module _ (laws : Laws) (bytes : List ℕ) (image : Image) (accepted : IsAccepted
               one-more n = omega arith
 
     accepts-so : ReceiveEnds s (tcb_of image t) e after → Falls
-    accepts-so (got_one first others status pc head gone right) =
+    accepts-so (got_one first others status pc head gone right message got) =
         let now = runs-now (ap is_runnable status) pc in took-so first others head gone (omega (arith, now))
     accepts-so (stays_there status pc nobody) =
         stays-so nothing-reached (waits-now (Blocked e) status refl pc ∙ ap (λ (a : Asked). owed_as w (t.thread.header.budget + next) a (Blocked e)) is)

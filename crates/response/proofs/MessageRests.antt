@@ -49,7 +49,7 @@ use Rattle.response.proofs.NamedNow.{asks-so}
 use Rattle.response.proofs.OthersMoved.{answered, as_it_was, gave, owed-runs, reached_by, rests-left, rung-reached, share, takers_in, worth}
 use Rattle.response.proofs.OwnCalls.{pc_at}
 use Rattle.response.proofs.OwnMessages.{ReceiveEnds, SendEnds, TakeEnds, got_one, got_word, sent_awaits, sent_passed, sent_queued, sent_stopped, stays_on}
-use Rattle.response.proofs.OwnMessages.{stays_there}
+use Rattle.response.proofs.OwnMessages.{stays-pc, stays_there}
 use Rattle.response.proofs.Passing.{or-then}
 use Rattle.response.proofs.ReachedPay.{moves-so, no_more, other-kept, never-none, reached-pay, rings, total-both, word-grown}
 use Rattle.response.proofs.Rises.{none-some, one-some, rung_cost}
@@ -413,7 +413,7 @@ module _ (laws : Laws) (bytes : List ℕ) (image : Image) (accepted : IsAccepted
   takes-none o is (stays_on status pc) = own-there pc (Blocked o) status ∙ ap (owed_queued w 0) is
 
   accepts-none : (e : ℕ) (replies : Bool) → asked ≡ Accepts e replies → ReceiveEnds s tcb e after → after_of t ≡ 0
-  accepts-none e replies is (got_one first others status pc head gone right) = own-runs status
+  accepts-none e replies is (got_one first others status pc head gone right message got) = own-runs status
   accepts-none e replies is (stays_there status pc nobody) = own-there pc (Blocked e) status ∙ ap (owed_queued w 0) is
 
   -- ---- where it brings something
@@ -451,14 +451,16 @@ module _ (laws : Laws) (bytes : List ℕ) (image : Image) (accepted : IsAccepted
       by-ends : (is_caller : Bool) → SendEnds s tcb e is_caller after
           → work image priority w after later ≤ at_rest_with image w is_taken is_open owed_most + more
       by-ends is_caller (sent_passed status pc) = passes (own-runs status)
-      by-ends is_caller (sent_queued status pc q is nobody) =
-          quiet-rests more (let mine : after_of t ≡ owed_queued w 0 asked = own-there pc (Blocked e) status in omega (arith, mine, owes_price, enough))
+      by-ends is_caller (sent_queued status kept q is nobody) =
+          quiet-rests more
+          (let mine : after_of t ≡ owed_queued w 0 asked = own-there (stays-pc s after tcb kept) (Blocked e) status in
+          omega (arith, mine, owes_price, enough))
           (λ u o rest so first.
           let same : o ≡ e = one-some (sym so ∙ reaches) in
           let clash : ◌≡◌ {A = List ℕ} [] (tcb_of image u ∷ rest) =
           sym nobody ∙ sym (ap takers_in is) ∙ ap (λ (k : ℕ). takers_in (s.objects k)) (sym same) ∙ first in
           absurd cc) unrung
-      by-ends is_caller (sent_awaits y rest status pc so first right) = passes (own-there pc AwaitsReply status ∙ none-awaited asked)
+      by-ends is_caller (sent_awaits y rest status kept so first right) = passes (own-there (stays-pc s after tcb kept) AwaitsReply status ∙ none-awaited asked)
       by-ends is_caller (sent_stopped status) = absurd (never-stops status)
 
   owes-here : (a : Asked) → asked ≡ a → owes_at_most w is_taken false (going_on priority w t point) (owed_most t.number) a ≡ true

@@ -30,10 +30,12 @@ use Rattle.model.specs.Kernel.State.{State, ThreadState}
 use Rattle.model.specs.Kernel.Steps.{call_of, named_slot, registers_of}
 use Rattle.model.specs.Machine.ProgramMemory.{read}
 use Rattle.headline.proofs.Laws.{at-place, named-here}
+use Rattle.headline.specs.calls.Known.{CallsSo}
 use Rattle.headline.specs.facts.Waiting.{NamesThere}
 use Rattle.headline.specs.moves.Laws.{Laws}
 use Rattle.headline.specs.moves.Moving.{CallsAt}
-use Rattle.response.specs.Asking.{asked_at, asked_by, asked_known, asked_of, capability_found, capability_named}
+use Rattle.response.specs.Asking.{Answers, Asks_nothing, Calls, asked_at, asked_by, asked_known, asked_of, capability_found}
+use Rattle.response.specs.Asking.{capability_named}
 use Rattle.response.proofs.AskedNow.{asked_now}
 use Rattle.response.proofs.Takers.{passes}
 use Rattle.response.proofs.Waiting.{one-left}
@@ -85,6 +87,17 @@ module _ (laws : Laws) (bytes : List ℕ) (image : Image) (s : State) (labels : 
   by-call-same Yields is = refl
   by-call-same PutsCharacter is = refl
 
+  -- so where it calls an endpoint
+  by-call-names : (call : SystemCall) (e : ℕ) → by_call image t.thread (point_of t point) state call ≡ Ok left
+      → asked_by call (capability_named image t.thread state) ≡ Calls e → capability_named image t.thread state ≡ capability_found s.slots (named_slot s tcb)
+  by-call-names (Sends kind) e is asks = by-named (send_rule image t.thread (point_of t point) state kind) is
+  by-call-names (Receives Receiving) e is asks = by-named (λ slot. receive_rule image (point_of t point) state true) is
+  by-call-names (Receives Polling) e is asks = by-named (λ slot. receive_rule image (point_of t point) state false) is
+  by-call-names RepliesAndReceives e is asks = by-named (λ slot. receive_rule image (point_of t point) state true) is
+  by-call-names Replies e is asks = absurd (let clash : Answers ≡ Calls e = asks in cc)
+  by-call-names Yields e is asks = absurd (let clash : Asks_nothing ≡ Calls e = asks in cc)
+  by-call-names PutsCharacter e is asks = absurd (let clash : Asks_nothing ≡ Calls e = asks in cc)
+
   rule-is : after_call image t.thread (point_of t point) state ≡ Ok left
   rule-is =
       let allowed = laws.allowed bytes image t point state accepted listed at.stands.inside at.stands.known at.ecall in
@@ -98,13 +111,23 @@ module _ (laws : Laws) (bytes : List ℕ) (image : Image) (s : State) (labels : 
       let within = at.stands.registers 17 (omega arith) in
       single-low first.value (read own.registers a7) (point_of t point) (range_of state.ranges a7) first.is within.0 within.1
 
-  pub asks-so : asked_at image t.thread point state ≡ asked_now s (tcb_of image t)
+  so : CallsSo image t.thread (point_of t point) state left own.registers
+  so = laws.number image t.thread (point_of t point) state left own.registers rule-is at.stands.registers
+
+  -- what is asked is what its call asks of the capability that is known
+  asks-by : asked_at image t.thread point state ≡ asked_by so.call (capability_named image t.thread state)
   unfolding asked_at
-  asks-so =
-      let so = laws.number image t.thread (point_of t point) state left own.registers rule-is at.stands.registers in
-      let number : call_of (read (registers_of s tcb) a7) ≡ Some so.call = ap (λ r. call_of (read r a7)) same-own ∙ so.number in
+  asks-by =
       ap (λ (o : Option Instr). asked_of image t.thread state o) at.ecall
       ∙ ap (λ (n : ℕ). asked_known (call_of n) (capability_named image t.thread state)) (number-low rule-is)
       ∙ ap (λ (o : Option SystemCall). asked_known o (capability_named image t.thread state)) so.number
-      ∙ by-call-same so.call so.rule
+
+  pub names-so : (e : ℕ) → asked_at image t.thread point state ≡ Calls e
+      → capability_named image t.thread state ≡ capability_found s.slots (named_slot s (tcb_of image t))
+  names-so e asks = by-call-names so.call e so.rule (sym asks-by ∙ asks)
+
+  pub asks-so : asked_at image t.thread point state ≡ asked_now s (tcb_of image t)
+  asks-so =
+      let number : call_of (read (registers_of s tcb) a7) ≡ Some so.call = ap (λ r. call_of (read r a7)) same-own ∙ so.number in
+      asks-by ∙ by-call-same so.call so.rule
       ∙ sym (ap (λ (o : Option SystemCall). asked_known o (capability_found s.slots (named_slot s tcb))) number)

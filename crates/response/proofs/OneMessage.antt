@@ -53,7 +53,7 @@ use Rattle.response.proofs.OwnAuthority.{OwnAuthority, own-authority}
 use Rattle.response.proofs.OwnCalls.{pc_at}
 use Rattle.response.proofs.OwnMessages.{ReceiveEnds, SendEnds, TakeEnds, accepts-so, sent_awaits, calls-so, sent_passed, sent_queued, sends-so, sent_stopped}
 use Rattle.response.proofs.OwnMessages.{takes-so, got_one, got_word}
-use Rattle.response.proofs.OwnMessages.{stays_on, stays_there}
+use Rattle.response.proofs.OwnMessages.{stays-pc, stays_on, stays_there}
 use Rattle.response.proofs.OwnSteps.{bells-apart, doors-apart, goes-on}
 use Rattle.response.proofs.Stage.{rest-left}
 use Rattle.response.proofs.Taken.{call-takes}
@@ -178,14 +178,14 @@ module _ (laws : Laws) (steps : AnyStepGoesWell) (told : (a b : ThreadState) →
 
       by-send : (e : ℕ) (is_caller : Bool) → (is_caller ≡ true → is_call asked ≡ true) → SendEnds s tcb e is_caller after → Asks
       by-send e is_caller called (sent_passed status pc) = runs-after status
-      by-send e is_caller called (sent_queued status pc q is nobody) = waits-after pc (blocked-no e status)
-      by-send e is_caller called (sent_awaits y rest status pc so first right) = waits-after pc (λ _. called so)
+      by-send e is_caller called (sent_queued status kept q is nobody) = waits-after (stays-pc s after tcb kept) (blocked-no e status)
+      by-send e is_caller called (sent_awaits y rest status kept so first right) = waits-after (stays-pc s after tcb kept) (λ _. called so)
       by-send e is_caller called (sent_stopped status) =
           vacuous image t after well.stands.sound Inactive status (λ clash. absurd (let c : Inactive ≡ AwaitsReply = clash in cc))
           (λ queue clash. absurd (let c : Inactive ≡ Blocked queue = clash in cc))
 
       by-accept : (e : ℕ) → ReceiveEnds s tcb e after → Asks
-      by-accept e (got_one first others status pc head gone right) = runs-after status
+      by-accept e (got_one first others status pc head gone right message got) = runs-after status
       by-accept e (stays_there status pc nobody) = waits-after pc (blocked-no e status)
 
       by-take : (o : ℕ) → TakeEnds s tcb o after → Asks

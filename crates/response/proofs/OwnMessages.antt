@@ -61,9 +61,12 @@ block-status : (m : State) (x : ℕ) (status : Status) → status_at (block m x 
 block-status m x status = ap (λ (o : Option Object). (thread-of o).status) (put-at m.objects x
     (Some (ThreadObject (record (thread_at m x) { status = status }))))
 
-block-pc : (m : State) (x : ℕ) (status : Status) → pc_at (block m x status) x ≡ pc_at m x
-block-pc m x status = ap (λ (o : Option Object). (thread-of o).registers.pc) (put-at m.objects x
+block-registers : (m : State) (x : ℕ) (status : Status) → registers_of (block m x status) x ≡ registers_of m x
+block-registers m x status = ap (λ (o : Option Object). (thread-of o).registers) (put-at m.objects x
     (Some (ThreadObject (record (thread_at m x) { status = status }))))
+
+block-pc : (m : State) (x : ℕ) (status : Status) → pc_at (block m x status) x ≡ pc_at m x
+block-pc m x status = ap (λ (r : RegisterFile). r.pc) (block-registers m x status)
 
 pub block-off : (m : State) (y x : ℕ) (status : Status) → x ≢ y → (block m y status).objects x ≡ m.objects x
 block-off m y x status other = put-off m.objects y x (Some (ThreadObject (record (thread_at m y) { status = status }))) other
@@ -72,8 +75,8 @@ caller-status : (m : State) (x : ℕ) (caller : Option ℕ) → status_at (with_
 caller-status m x caller = ap (λ (o : Option Object). (thread-of o).status)
     (put-at m.objects x (Some (ThreadObject (record (thread_at m x) { caller = caller }))))
 
-caller-pc : (m : State) (x : ℕ) (caller : Option ℕ) → pc_at (with_caller m x caller) x ≡ pc_at m x
-caller-pc m x caller = ap (λ (o : Option Object). (thread-of o).registers.pc)
+caller-registers : (m : State) (x : ℕ) (caller : Option ℕ) → registers_of (with_caller m x caller) x ≡ registers_of m x
+caller-registers m x caller = ap (λ (o : Option Object). (thread-of o).registers)
     (put-at m.objects x (Some (ThreadObject (record (thread_at m x) { caller = caller }))))
 
 caller-is : (m : State) (x : ℕ) (caller : Option ℕ) → (thread_at (with_caller m x caller) x).caller ≡ caller
@@ -82,6 +85,9 @@ caller-is m x caller = ap (λ (o : Option Object). (thread-of o).caller)
 
 pub caller-off : (m : State) (y x : ℕ) (caller : Option ℕ) → x ≢ y → (with_caller m y caller).objects x ≡ m.objects x
 caller-off m y x caller other = put-off m.objects y x (Some (ThreadObject (record (thread_at m y) { caller = caller }))) other
+
+elsewhere-registers : (m after : State) (x : ℕ) → after.objects x ≡ m.objects x → registers_of after x ≡ registers_of m x
+elsewhere-registers m after x same = ap (λ (o : Option Object). (thread-of o).registers) same
 
 pub elsewhere-status : (m after : State) (x : ℕ) → after.objects x ≡ m.objects x → status_at after x ≡ status_at m x
 elsewhere-status m after x same = ap (λ (o : Option Object). (thread-of o).status) same
@@ -121,6 +127,17 @@ delivered-pc r badge message =
     words-pc (write (write r a0 badge) a1 info) word_registers message.words ∙ write-pc (write r a0 badge) a1 info
     ∙ write-pc r a0 badge
 
+sent-registers : (m : State) (first : Sender) (y : ℕ)
+    → registers_of (deliver_sent m first y) y ≡ advanced (delivered (registers_of m y) first.badge (message_to m first first.sent y))
+sent-registers m first y =
+    let one : State = record m { bytes = bytes_sent m first first.sent y } in
+    let r = delivered (thread_at one y).registers first.badge (message_to m first first.sent y) in
+    ap (λ (o : Option Object). (thread-of o).registers)
+    (put-at (with_registers one y r).objects y
+    (Some (ThreadObject (record (thread_at (with_registers one y r) y) { registers = advanced (thread_at (with_registers one y r) y).registers }))))
+    ∙ ap (λ (o : Option Object). advanced (thread-of o).registers)
+    (put-at one.objects y (Some (ThreadObject (record (thread_at one y) { registers = r }))))
+
 sent-pc : (m : State) (first : Sender) (y : ℕ) → pc_at (deliver_sent m first y) y ≡ (pc_at m y + 4) % 2 ^ 32
 sent-pc m first y =
     let one : State = record m { bytes = bytes_sent m first first.sent y } in
@@ -134,12 +151,16 @@ sent-status m first y =
 
 -- ---- what is left of the thread
 
+-- registers that stay have the pc that they had
+pub stays-pc : (s after : State) (x : ℕ) → registers_of after x ≡ registers_of s x → pc_at after x ≡ pc_at s x
+stays-pc s after x same = ap (λ (r : RegisterFile). r.pc) same
+
 -- after Send and Call
 pub data SendEnds (s : State) (x e : ℕ) (is_call : Bool) (after : State) : Type 0 where
   sent_passed : status_at after x ≡ Runnable → pc_at after x ≡ (pc_at s x + 4) % 2 ^ 32 → SendEnds s x e is_call after
-  sent_queued : status_at after x ≡ Blocked e → pc_at after x ≡ pc_at s x → (q : EndpointState) → s.objects e ≡ Some (EndpointObject q) → q.receivers ≡ []
-      → SendEnds s x e is_call after
-  sent_awaits : (y : ℕ) (rest : List ℕ) → status_at after x ≡ AwaitsReply → pc_at after x ≡ pc_at s x → is_call ≡ true
+  sent_queued : status_at after x ≡ Blocked e → registers_of after x ≡ registers_of s x → (q : EndpointState) → s.objects e ≡ Some (EndpointObject q)
+      → q.receivers ≡ [] → SendEnds s x e is_call after
+  sent_awaits : (y : ℕ) (rest : List ℕ) → status_at after x ≡ AwaitsReply → registers_of after x ≡ registers_of s x → is_call ≡ true
       → (endpoint_at s e).receivers ≡ y ∷ rest → (thread_at after y).caller ≡ Some x → SendEnds s x e is_call after
   sent_stopped : status_at after x ≡ Inactive → SendEnds s x e is_call after
 
@@ -147,7 +168,8 @@ pub data SendEnds (s : State) (x e : ℕ) (is_call : Bool) (after : State) : Typ
 pub data ReceiveEnds (s : State) (x e : ℕ) (after : State) : Type 0 where
   got_one : (first : Sender) (others : List Sender) → status_at after x ≡ Runnable → pc_at after x ≡ (pc_at s x + 4) % 2 ^ 32
       → (endpoint_at s e).senders ≡ first ∷ others → (status_at after first.thread ≡ Blocked e → ⊥)
-      → (first.sent ≡ ByCall → first.grant_reply ≡ true → (thread_at after x).caller ≡ Some first.thread) → ReceiveEnds s x e after
+      → (first.sent ≡ ByCall → first.grant_reply ≡ true → (thread_at after x).caller ≡ Some first.thread) → (message : Message)
+      → registers_of after x ≡ advanced (delivered (registers_of s x) first.badge message) → ReceiveEnds s x e after
   stays_there : status_at after x ≡ Blocked e → pc_at after x ≡ pc_at s x → (endpoint_at s e).senders ≡ [] → ReceiveEnds s x e after
 
 -- and on a notification
@@ -191,12 +213,12 @@ module _ (s : State) (x : ℕ) (own : ThreadState) (there : s.objects x ≡ Some
 
   record IsReadyAs (m : State) : Type 0 where
     pub runs : status_at m x ≡ Runnable
-    pub pc : pc_at m x ≡ pc_at s x
+    pub registers : registers_of m x ≡ registers_of s x
     pub slots : m.slots ≡ s.slots
     pub gate : (e : ℕ) (q : EndpointState) → s.objects e ≡ Some (EndpointObject q) → m.objects e ≡ Some (EndpointObject q)
 
   ready-now : IsReadyAs s
-  ready-now = record { runs = own-runs; pc = refl; slots = refl; gate = λ e q is. is }
+  ready-now = record { runs = own-runs; registers = refl; slots = refl; gate = λ e q is. is }
 
   gate-apart : (e : ℕ) (q : EndpointState) → s.objects e ≡ Some (EndpointObject q) → e ≢ x
   gate-apart e q is same =
@@ -217,7 +239,7 @@ module _ (s : State) (x : ℕ) (own : ThreadState) (there : s.objects x ≡ Some
       (handles-none s x own there status address place caller) in
       record {
         runs = ap (λ (o : Option Object). (thread-of o).status) mine ∙ caller-status s x None ∙ own-runs;
-        pc = ap (λ (o : Option Object). (thread-of o).registers.pc) mine ∙ caller-pc s x None;
+        registers = ap (λ (o : Option Object). (thread-of o).registers) mine ∙ caller-registers s x None;
         slots = replied-slots ready x caller (thread_at s caller).status message;
         gate = λ e q is.
             replied-there ready x caller e (thread_at s caller).status message
@@ -338,8 +360,8 @@ module _ (s : State) (x : ℕ) (own : ThreadState) (there : s.objects x ≡ Some
         → SendEnds s x e false (sends s e (sender x BySend badge grants) l)
     send-ends badge grants [] nobody =
         let mine = sender x BySend badge grants in
-        sent_queued (block-status (joined mine) x (Blocked e)) (block-pc (joined mine) x (Blocked e) ∙ elsewhere-pc s (joined mine) x (joined-off mine)) q is
-        (sym at_gate ∙ nobody)
+        sent_queued (block-status (joined mine) x (Blocked e))
+        (block-registers (joined mine) x (Blocked e) ∙ elsewhere-registers s (joined mine) x (joined-off mine)) q is (sym at_gate ∙ nobody)
     send-ends badge grants (y ∷ rest) first =
         let mine = sender x BySend badge grants in
         let other = others.receivers y rest first in
@@ -351,8 +373,8 @@ module _ (s : State) (x : ℕ) (own : ThreadState) (there : s.objects x ≡ Some
         → SendEnds s x e true (sends s e (sender x ByCall badge grants) l)
     call-ends badge grants [] nobody =
         let mine = sender x ByCall badge grants in
-        sent_queued (block-status (joined mine) x (Blocked e)) (block-pc (joined mine) x (Blocked e) ∙ elsewhere-pc s (joined mine) x (joined-off mine)) q is
-        (sym at_gate ∙ nobody)
+        sent_queued (block-status (joined mine) x (Blocked e))
+        (block-registers (joined mine) x (Blocked e) ∙ elsewhere-registers s (joined mine) x (joined-off mine)) q is (sym at_gate ∙ nobody)
     call-ends badge true (y ∷ rest) first =
         let mine = sender x ByCall badge true in
         let other = others.receivers y rest first in
@@ -360,8 +382,8 @@ module _ (s : State) (x : ℕ) (own : ThreadState) (there : s.objects x ≡ Some
         let stopped_ = block m x AwaitsReply in
         sent_awaits y rest
         (elsewhere-status stopped_ (with_caller stopped_ y (Some x)) x (caller-off stopped_ y x (Some x) other) ∙ block-status m x AwaitsReply)
-        (elsewhere-pc stopped_ (with_caller stopped_ y (Some x)) x (caller-off stopped_ y x (Some x) other) ∙ block-pc m x AwaitsReply
-        ∙ elsewhere-pc s m x (reached-off mine y rest other)) refl first (caller-is stopped_ y (Some x))
+        (elsewhere-registers stopped_ (with_caller stopped_ y (Some x)) x (caller-off stopped_ y x (Some x) other) ∙ block-registers m x AwaitsReply
+        ∙ elsewhere-registers s m x (reached-off mine y rest other)) refl first (caller-is stopped_ y (Some x))
     call-ends badge false (y ∷ rest) first =
         let mine = sender x ByCall badge false in
         sent_stopped (block-status (wake (deliver_sent (fewer rest) mine y) y) x Inactive)
@@ -398,25 +420,31 @@ module _ (s : State) (x : ℕ) (own : ThreadState) (there : s.objects x ≡ Some
         { receivers = (endpoint_at dropped e).receivers ++ x ∷ [] })))
         (λ same. others.apart (sym same))
 
+    dropped-registers : registers_of dropped x ≡ registers_of s x
+    dropped-registers = caller-registers m x None ∙ IsReadyAs.registers ready
+
     dropped-pc : pc_at dropped x ≡ pc_at s x
-    dropped-pc = caller-pc m x None ∙ IsReadyAs.pc ready
+    dropped-pc = stays-pc s dropped x dropped-registers
 
     dropped-runs : status_at dropped x ≡ Runnable
     dropped-runs = caller-status m x None ∙ IsReadyAs.runs ready
 
     -- the sender, once its message is received, and the thread that receives it
-    got-pc : (v : State) (first : Sender) (kind : Sent) → x ≢ first.thread → pc_at (received_waiting v first kind x) x ≡ pc_at v x
-    got-pc v first BySend other =
-        elsewhere-pc v (wake (passes v first.thread) first.thread) x (wake-off (passes v first.thread) first.thread x other ∙ passes-off v first.thread x other)
-    got-pc v first ByCall other = elim first.grant_reply
-        as (λ b. pc_at (if b then with_caller (block v first.thread AwaitsReply) x (Some first.thread) else block v first.thread Inactive) x ≡ pc_at v x) [
-          | true ↦ caller-pc (block v first.thread AwaitsReply) x (Some first.thread)
-              ∙ elsewhere-pc v (block v first.thread AwaitsReply) x (block-off v first.thread x AwaitsReply other)
-          | false ↦ elsewhere-pc v (block v first.thread Inactive) x (block-off v first.thread x Inactive other)
+    got-registers : (v : State) (first : Sender) (kind : Sent) → x ≢ first.thread
+        → registers_of (received_waiting v first kind x) x ≡ registers_of v x
+    got-registers v first BySend other =
+        elsewhere-registers v (wake (passes v first.thread) first.thread) x
+        (wake-off (passes v first.thread) first.thread x other ∙ passes-off v first.thread x other)
+    got-registers v first ByCall other = elim first.grant_reply
+        as (λ b. registers_of (if b then with_caller (block v first.thread AwaitsReply) x (Some first.thread) else block v first.thread Inactive) x
+        ≡ registers_of v x) [
+          | true ↦ caller-registers (block v first.thread AwaitsReply) x (Some first.thread)
+              ∙ elsewhere-registers v (block v first.thread AwaitsReply) x (block-off v first.thread x AwaitsReply other)
+          | false ↦ elsewhere-registers v (block v first.thread Inactive) x (block-off v first.thread x Inactive other)
         ]
-    got-pc v first (ByFault fault) other =
-        caller-pc (block v first.thread AwaitsHandler) x (Some first.thread)
-        ∙ elsewhere-pc v (block v first.thread AwaitsHandler) x (block-off v first.thread x AwaitsHandler other)
+    got-registers v first (ByFault fault) other =
+        caller-registers (block v first.thread AwaitsHandler) x (Some first.thread)
+        ∙ elsewhere-registers v (block v first.thread AwaitsHandler) x (block-off v first.thread x AwaitsHandler other)
 
     got-status : (v : State) (first : Sender) (kind : Sent) → x ≢ first.thread → status_at (received_waiting v first kind x) x ≡ status_at v x
     got-status v first BySend other =
@@ -471,9 +499,12 @@ module _ (s : State) (x : ℕ) (own : ThreadState) (there : s.objects x ≡ Some
         let v = deliver_sent (short rest) first x in
         got_one first rest
         (got-status v first first.sent other ∙ sent-status (short rest) first x ∙ elsewhere-status dropped (short rest) x (short-off rest) ∙ dropped-runs)
-        (got-pc v first first.sent other ∙ sent-pc (short rest) first x
+        (stays-pc v (received_waiting v first first.sent x) x (got-registers v first first.sent other) ∙ sent-pc (short rest) first x
         ∙ ap (λ (k : ℕ). (k + 4) % 2 ^ 32) (elsewhere-pc dropped (short rest) x (short-off rest) ∙ dropped-pc))
-        head (gone-status v first first.sent other) (got-right v first)
+        head (gone-status v first first.sent other) (got-right v first) (message_to (short rest) first first.sent x)
+        (got-registers v first first.sent other ∙ sent-registers (short rest) first x
+        ∙ ap (λ (r : RegisterFile). advanced (delivered r first.badge (message_to (short rest) first first.sent x)))
+        (elsewhere-registers dropped (short rest) x (short-off rest) ∙ dropped-registers))
 
     receive-ends : ReceiveEnds s x e (receive m e x)
     receive-ends =
@@ -496,10 +527,11 @@ module _ (s : State) (x : ℕ) (own : ThreadState) (there : s.objects x ≡ Some
     by-word true none =
         subst (λ (z : State). TakeEnds s x o z)
         (sym (ap (λ (b : Bool). if b then waits_for_signal m o x else deliver_word emptied x (notification_at m o).word) none))
-        (stays_on (block-status queue x (Blocked o)) (block-pc queue x (Blocked o) ∙ elsewhere-pc m queue x queue-off ∙ IsReadyAs.pc ready))
+        (stays_on (block-status queue x (Blocked o))
+        (block-pc queue x (Blocked o) ∙ elsewhere-pc m queue x queue-off ∙ stays-pc s m x (IsReadyAs.registers ready)))
     by-word false some = elim (is_runnable (status_at (wait m o x) x)) as (λ b. is_runnable (status_at (wait m o x) x) ≡ b → TakeEnds s x o (wait m o x)) [
       | true ↦ λ runs. got_word runs
-          ((waits-on s x own there status address place m o apart runs).pc ∙ ap (λ (k : ℕ). (k + 4) % 2 ^ 32) (IsReadyAs.pc ready))
+          ((waits-on s x own there status address place m o apart runs).pc ∙ ap (λ (k : ℕ). (k + 4) % 2 ^ 32) (stays-pc s m x (IsReadyAs.registers ready)))
       | false ↦ λ rests. absurd (let clash : true ≡ false = sym runs-then ∙ rests in cc)
     ] refl
       where

@@ -54,7 +54,7 @@ use Rattle.response.proofs.OwnAuthority.{OwnAuthority, own-authority}
 use Rattle.response.proofs.OneMessage.{accepts, calls, goes, sends, waits_so}
 use Rattle.response.proofs.OwnCalls.{pc_at}
 use Rattle.response.proofs.OwnMessages.{ReceiveEnds, SendEnds, TakeEnds, got_one, got_word, sent_awaits, sent_passed, sent_queued, sent_stopped}
-use Rattle.response.proofs.OwnMessages.{stays_on, stays_there}
+use Rattle.response.proofs.OwnMessages.{stays-pc, stays_on, stays_there}
 use Rattle.response.proofs.PlainPoints.{asks-none}
 use Rattle.response.proofs.Resumed.{Resumed, as_before, goes_next, resumed, set_again, waits_on}
 use Rattle.response.proofs.Rung.{asks-of, pended}
@@ -450,12 +450,12 @@ module _ (laws : Laws) (steps : AnyStepGoesWell) (told : (a b : ThreadState) →
 
         sent-ends : (e : ℕ) (is_call : Bool) → SendEnds s tcb e is_call after → Tended_now after
         sent-ends e is_call (sent_passed status pc) = onward next pc
-        sent-ends e is_call (sent_queued status pc q is nobody) = stays-here way pc
-        sent-ends e is_call (sent_awaits y rest status pc so first right) = stays-here way pc
+        sent-ends e is_call (sent_queued status kept q is nobody) = stays-here way (stays-pc s after tcb kept)
+        sent-ends e is_call (sent_awaits y rest status kept so first right) = stays-here way (stays-pc s after tcb kept)
         sent-ends e is_call (sent_stopped status) = absurd (never-stops status)
 
         received-ends : (e : ℕ) → ReceiveEnds s tcb e after → Tended_now after
-        received-ends e (got_one first others status pc head gone right) = onward next pc
+        received-ends e (got_one first others status pc head gone right message got) = onward next pc
         received-ends e (stays_there status pc none) = stays-here way pc
 
         by-asked : (x : Asked) → asked_now s tcb ≡ x → Tended_now after

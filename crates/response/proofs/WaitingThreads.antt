@@ -9,6 +9,7 @@ use Rattle.model.specs.declared.instructions.Register.{Register}
 use Rattle.model.specs.declared.labels.Label.{Label}
 use Rattle.model.specs.declared.rights.Rights.{Rights}
 use Rattle.model.specs.Acceptance.Accepted.{IsAccepted}
+use Rattle.model.specs.Acceptance.Authority.{badge_of}
 use Rattle.model.specs.Acceptance.CallRules.{AfterCall, changes_nothing, message_registers}
 use Rattle.model.specs.Acceptance.NotedStates.{PointState}
 use Rattle.model.specs.Acceptance.PointStates.{Noted, address_of, call_at, instruction_at, noted, point_of}
@@ -223,6 +224,11 @@ module _ (laws : Laws) (bytes : List ℕ) (image : Image) (s : State) (labels : 
         module _ (x : Sender) (among : Contains e.senders x) (its : x.thread ≡ tcb_of image t) where
           sent-as : SendsAs w.state w.left x
           sent-as = (queued.sends e x is among its).kind
+
+          -- with the badge of the capability that its call names
+          pub badge-there : x.badge ≡ badge_of (capability_named image t.thread w.state)
+          badge-there =
+              (queued.sends e x is among its).badge ∙ ap badge_of (sym (named-is image t w.state queued.capability queued.named))
 
           pub data SendsThere : Type 0 where
             as_sender : x.sent ≡ BySend → asked_at image t.thread w.point w.state ≡ SendsTo queue → SendsThere

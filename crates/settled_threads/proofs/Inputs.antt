@@ -8,6 +8,7 @@ use Rattle.model.specs.declared.capabilities.Cap.TheVariants.{Endpoint, Notifica
 use Rattle.model.specs.declared.labels.Label.{Label}
 use Rattle.model.specs.declared.rights.Rights.{Rights}
 use Rattle.model.specs.Acceptance.Accepted.{IsAccepted}
+use Rattle.model.specs.Acceptance.PointStates.{noted}
 use Rattle.model.specs.Acceptance.ThreadInvariants.{IsWaiting, tcb_of}
 use Rattle.model.specs.Images.Described.{Numbered, numbered_threads}
 use Rattle.model.specs.Images.Image.{Image}
@@ -22,10 +23,11 @@ use Rattle.headline.specs.moves.Laws.{Laws}
 use Rattle.response.specs.Asking.{Accepts, Acknowledges, Answers, Asked, Asks_nothing, Calls, Looks, Polls, Rings, SendsTo, Takes, Tries, asked_at}
 use Rattle.response.specs.Asking.{capability_named}
 use Rattle.response.specs.DealtWith.{Rests}
+use Rattle.response.specs.Left.{point_now}
 use Rattle.response.specs.Owed.{WaitsWhereAsked, asked_there}
 use Rattle.response.proofs.Laws.{WaitsAt, WaitsBy, accepts-rests, accepts_from, bell-queue, bell-waits, called-there, calls_there, gate-there, here}
 use Rattle.response.proofs.Laws.{receives-there, sends_there, takes_word, there-is, waits-at}
-use Rattle.settled_threads.specs.Answering.{IsAnswered, IsOwed, is_accept}
+use Rattle.settled_threads.specs.Answering.{CallsThere, IsAnswered, IsOwed, badge_at, badge_noted, is_accept}
 use Rattle.settled_threads.specs.Settled.{AreSettled, AsksSettled, ComesBefore, HasNothing, IsServed, IsTaken, Settling, WaitsAtInput, taken_by}
 use Rattle.settled_threads.proofs.Holders.{OwesOn, owes-on}
 
@@ -46,8 +48,8 @@ takes-some Asks_nothing o is = absurd (let clash : ◌≡◌ {A = Option ℕ} No
 module _ (laws : Laws) (bytes : List ℕ) (image : Image) (s : State) (labels : List Label) (accepted : IsAccepted bytes image) (all : AllStand image s labels)
     (asked_so : (u : Numbered) → Contains (numbered_threads image) u → WaitsWhereAsked image u s) (priority : ℕ) (settling : Settling)
     (settled : AreSettled image priority settling) (rests : Rests image priority s)
-    (owed : (u : Numbered) (endpoint : ℕ) → Contains (numbered_threads image) u → (a : IsAnswered image endpoint)
-    → (thread_at s (tcb_of image u)).status ≡ AwaitsReply → asked_there image s u ≡ Calls endpoint → IsOwed image endpoint a u s) where
+    (owed : (u : Numbered) (endpoint badge : ℕ) → Contains (numbered_threads image) u → (a : IsAnswered image endpoint badge)
+    → (thread_at s (tcb_of image u)).status ≡ AwaitsReply → CallsThere image s u endpoint badge → IsOwed image endpoint badge a u s) where
   abbrev AtInput : Numbered → ℕ → Type 0
   AtInput u object = WaitsAtInput image u s object
 
@@ -57,11 +59,19 @@ module _ (laws : Laws) (bytes : List ℕ) (image : Image) (s : State) (labels : 
     abbrev asked : Asked
     asked = asked_at image t.thread v.point v.state
 
-    may : AsksSettled image settling object (settling.rank t.number) (asked_at image t.thread v.point v.state)
+    abbrev badge_here : ℕ
+    badge_here = badge_at image t v.state
+
+    may : AsksSettled image settling object (settling.rank t.number) (badge_at image t v.state) (asked_at image t.thread v.point v.state)
     may = (settled t object listed input).1 v.point v.state v.stands.inside v.stands.known
 
     asks-here : asked_there image s t ≡ asked
     asks-here = (here laws bytes image s labels accepted all t listed own v).1
+
+    carries-here : badge_noted image t (noted image t (point_now image s t)) ≡ badge_here
+    carries-here =
+        ap (λ (k : ℕ). badge_noted image t (noted image t k)) (here laws bytes image s labels accepted all t listed own v).0
+        ∙ ap (badge_noted image t) v.stands.known
 
     its-status : (thread_at s (tcb_of image t)).status ≡ own.status
     its-status = ap (λ (u : ThreadState). u.status) (at-place s (tcb_of image t) own v.there)
@@ -144,9 +154,9 @@ module _ (laws : Laws) (bytes : List ℕ) (image : Image) (s : State) (labels : 
 
     -- ---- a caller was answered
 
-    module _ (o : ℕ) (asks : asked ≡ Calls o) (served : IsServed image settling o (settling.rank t.number)) (awaits : own.status ≡ AwaitsReply) where
-      debt : IsOwed image o served.answered t s
-      debt = owed t o listed served.answered (its-status ∙ awaits) (asks-here ∙ asks)
+    module _ (o : ℕ) (asks : asked ≡ Calls o) (served : IsServed image settling o (settling.rank t.number) badge_here) (awaits : own.status ≡ AwaitsReply) where
+      debt : IsOwed image o badge_here served.answered t s
+      debt = owed t o badge_here listed served.answered (its-status ∙ awaits) (record { asks = asks-here ∙ asks; carries = carries-here })
 
       -- who owes it waits at its input
       its-server : AtInput debt.server o
@@ -157,10 +167,10 @@ module _ (laws : Laws) (bytes : List ℕ) (image : Image) (s : State) (labels : 
           waits-at laws bytes image s labels accepted all debt.server debt.listed its-server.own its-server.there (ap is_runnable its-server.waits)
 
       -- but who owes an answer waits to take nothing
-      owes_on : OwesOn laws bytes image accepted o served.answered s labels all debt.server debt.listed debt.receives (tcb_of image t)
+      owes_on : OwesOn laws bytes image accepted o badge_here served.answered s labels all debt.server debt.listed debt.receives (tcb_of image t)
           debt.owes its-server.own its-wait
       owes_on =
-          owes-on laws bytes image accepted o served.answered s labels all debt.server debt.listed debt.receives (tcb_of image t)
+          owes-on laws bytes image accepted o badge_here served.answered s labels all debt.server debt.listed debt.receives (tcb_of image t)
           debt.owes its-server.own its-wait
 
       takes-none : taken_by (asked_at image debt.server.thread its-wait.point its-wait.state) ≡ Some o → ⊥
@@ -175,8 +185,8 @@ module _ (laws : Laws) (bytes : List ℕ) (image : Image) (s : State) (labels : 
 
     -- ---- whatever it waits for
 
-    may-as : (a : Asked) → asked ≡ a → AsksSettled image settling object (settling.rank t.number) a
-    may-as a is = subst (AsksSettled image settling object (settling.rank t.number)) is may
+    may-as : (a : Asked) → asked ≡ a → AsksSettled image settling object (settling.rank t.number) badge_here a
+    may-as a is = subst (AsksSettled image settling object (settling.rank t.number) badge_here) is may
 
     by-way : WaitsBy image t.thread v.state v.left asked → AtInput t object
     by-way (takes_word o r badge named asks end) =

@@ -1,5 +1,6 @@
 mod Holders
 mod Inputs
+mod MessageRegisters
 mod Rights
 mod OwedSteps
 mod OwedEvents
@@ -7,4 +8,5 @@ mod Owing
 mod AtBell
 mod Openings
 mod PassedSettled
+mod PlainWays
 mod HeldSettled

@@ -1,48 +1,56 @@
 -- Over one step whoever waits for an answer is owed it: the server keeps its right until it answers, and who begins to wait gives it.
 use Rattle.std.proofs.Common.{ℕ, ◌≡◌, ◌≢◌, ◌∙◌, ◌⊎◌, ◌==◌, ◌+◌, ◌-◌, ◌/◌, ◌%◌, ◌^◌, ◌||◌, ◌++◌, map, inl, inr, not, Bool, true, false, if◌then◌else◌, Option}
 use Rattle.std.proofs.Common.{Some, None, List, [], ◌∷◌, refl, sym, ap, subst, arith}
-use Rattle.std.specs.Prelude.{Contains, IsTrue}
+use Rattle.std.specs.Prelude.{Contains, IsTrue, Result, is_some}
 use Rattle.std.specs.Option.{option_map_or}
-use Rattle.std.proofs.lemmas.Bool.{and_parts}
+use Rattle.std.proofs.lemmas.Bool.{and_parts, eq-eqb}
 use Rattle.std.proofs.lemmas.Bool.Decides.{eqb_tells}
 use Rattle.model.specs.declared.capabilities.Cap.{Cap}
 use Rattle.model.specs.declared.events.Event.TheVariants.{Step}
+use Rattle.model.specs.declared.instructions.Instr.{Instr}
 use Rattle.model.specs.declared.labels.Label.{Label}
 use Rattle.model.specs.declared.labels.Label.TheVariants.{Ran}
+use Rattle.model.specs.declared.lookup_failures.LookupFailure.{LookupFailure}
+use Rattle.model.specs.declared.ranges.Range.{Range}
 use Rattle.model.specs.declared.system_calls.ReceiveCall.TheVariants.{Polling, Receiving}
 use Rattle.model.specs.declared.system_calls.SystemCall.{SystemCall}
 use Rattle.model.specs.declared.system_calls.SystemCall.TheVariants.{PutsCharacter, Receives, Replies, RepliesAndReceives, Sends, Yields}
 use Rattle.model.specs.Acceptance.Accepted.{IsAccepted}
-use Rattle.model.specs.Acceptance.Authority.{CallNames, StaysWithin, self_of}
+use Rattle.model.specs.Acceptance.Authority.{CallNames, StaysWithin, badge_of, self_of}
 use Rattle.model.specs.Acceptance.CallRules.{AfterCall}
+use Rattle.model.specs.Acceptance.Edges.{Edge, after as after_instr}
 use Rattle.model.specs.Acceptance.NotedStates.{PointState}
-use Rattle.model.specs.Acceptance.PointStates.{address_of}
-use Rattle.model.specs.Acceptance.ThreadInvariants.{IsWaiting, ThreadInvariant, runs, tcb_of, waits}
+use Rattle.model.specs.Acceptance.PointStates.{address_of, instruction_at, noted}
+use Rattle.model.specs.Acceptance.ThreadInvariants.{IsWaiting, LieWithin, ThreadInvariant, runs, tcb_of, waits}
 use Rattle.model.specs.Capabilities.Slots.{capability_at}
 use Rattle.model.specs.Images.Described.{Numbered, numbered_threads}
-use Rattle.model.specs.Images.Image.{Image}
+use Rattle.model.specs.Images.Image.{Image, Thread}
 use Rattle.model.specs.Kernel.AddressSpaces.{with_content}
 use Rattle.model.specs.Kernel.Deliveries.{Reason, ReceivesFrom, TakesSender, caller, faulted, once_received, receiver, sender, set_back, waiter}
 use Rattle.model.specs.Kernel.Deliveries.{woken}
 use Rattle.model.specs.Kernel.Kinds.{object_named}
-use Rattle.model.specs.Kernel.Messages.{message_between, message_of, resumption, with_registers}
+use Rattle.model.specs.Kernel.Messages.{a0, message_between, message_of, resumption, with_registers}
 use Rattle.model.specs.Kernel.Retype.{NewEndpoint, NewNotification}
 use Rattle.model.specs.Kernel.Scheduling.{current, is_runnable}
-use Rattle.model.specs.Kernel.Soundness.{awaits_answer, waiting_at}
+use Rattle.model.specs.Kernel.Soundness.{ThreadIsSound, awaits_answer, waiting_at}
 use Rattle.model.specs.Kernel.State.{AwaitsHandler, AwaitsReply, Blocked, ByCall, ByFault, BySend, CNodeObject, EndpointObject, EndpointState, FrameObject}
 use Rattle.model.specs.Kernel.State.{Inactive, NotificationObject, Object, PageTableObject, RootTableObject, Runnable, Sender, Sent, State, Status}
 use Rattle.model.specs.Kernel.State.{ThreadObject}
 use Rattle.model.specs.Kernel.State.{ThreadState, as_endpoint, endpoint_at, new_endpoint, thread_at}
-use Rattle.model.specs.Kernel.Steps.{memory_base, registers_of, step, system_call}
+use Rattle.model.specs.Kernel.Steps.{completed, memory_base, registers_of, step, system_call}
 use Rattle.model.specs.Kernel.Waits.{is_fault}
+use Rattle.model.specs.Machine.ProgramMemory.{RegisterFile, read}
 use Rattle.soundness.proofs.Laws.{endpoint-kind, notification-kind}
 use Rattle.headline.proofs.Laws.{IsGiven, RunsAlong, Waits, at-place, call-leaves, either-invokes, first-waits, goes-along, idle-is, step-cases}
 use Rattle.headline.specs.facts.Standing.{AllStand}
 use Rattle.headline.specs.invocations.Laws.{AnyStepGoesWell, Laws}
 use Rattle.headline.specs.moves.Moving.{CallsAt}
 use Rattle.headline.specs.moves.Steps.{MakesCall}
+use Rattle.headline.specs.steps.Laws.{DecodedFieldsLieInTheirRanges, InstructionsTakeEdges, MappedAccessesDoNotFault}
 use Rattle.headline.specs.steps.Points.{ReachesNoCall}
+use Rattle.headline.specs.steps.Taken.{IsPlain, edges_among}
 use Rattle.response.specs.Asking.{Accepts, Acknowledges, Answers, Asked, Asks_nothing, Calls, Looks, Polls, Rings, SendsTo, Takes, Tries, asked_at, asked_by}
+use Rattle.response.specs.Asking.{capability_found}
 use Rattle.response.specs.Left.{point_now}
 use Rattle.response.specs.Owed.{WaitsWhereAsked, asked_there}
 use Rattle.response.proofs.Laws.{ReceiveEnds, SendEnds, TakeEnds, WaitsAt, accepts, accepts-there, as_caller, as_sender, asked-same, asked_now, asks-none}
@@ -50,17 +58,29 @@ use Rattle.response.proofs.Laws.{asks-of}
 use Rattle.response.proofs.Laws.{asks-so, call-leads, called-is, called-label, calls, count, delivered-pc, doors-apart, goes, got_one, got_word, here}
 use Rattle.response.proofs.Laws.{asks-there, invoked-leaves, leads-on, may_wait, next-address, next-inside, next-pc, own, pc_at, point-of, put-at, put-off}
 use Rattle.response.proofs.Laws.{runs-is, sender-blocked, sends, sends-there, sent_awaits, sent_passed, sent_queued, sent_stopped, stays_on, stays_there}
-use Rattle.response.proofs.Laws.{there-is}
+use Rattle.response.proofs.Laws.{all-at, badge-there, names-so, or-then, stays-pc, there-is}
 use Rattle.response.proofs.Laws.{thread-of, waits-at, waits_so}
-use Rattle.settled_threads.specs.Answering.{IsAnswered, IsOwed, Owes, ReceivesAt, is_accept, owing_for}
-use Rattle.settled_threads.proofs.Holders.{other-owes, received-right, still-owes}
-use Rattle.settled_threads.proofs.Rights.{answered-runs, answers_first, caller-of, completed-keeps, keeps_right, right-kept}
+use Rattle.settled_threads.specs.Answering.{CallsThere, IsAnswered, IsOwed, Owes, ReceivesAt, are_known, badge_at, badge_noted, is_accept, leads_known}
+use Rattle.settled_threads.specs.Answering.{owing_for, owing_over, ranges_after_call, ranges_received}
+use Rattle.settled_threads.proofs.Holders.{other-owes, over-call, received-right, still-owes, thread-small}
+use Rattle.settled_threads.proofs.MessageRegisters.{IsKnown, badge-read, called-within, known-so, received-within}
+use Rattle.settled_threads.proofs.PlainWays.{plainly-known, takes-from}
+use Rattle.settled_threads.proofs.Rights.{KeepsAside, answered-runs, answers_first, completed-keeps, keeps_right, right-kept, then-aside, unmoved}
 
--- ---- marks
+-- ---- after a message was received
 
--- after a message was received the point is marked
-received-owing : (here_ next replies : Bool) (e : ℕ) → owing_for here_ next (Accepts e replies) ≡ true → next ≡ true
-received-owing here_ next replies e marked = (and_parts (replies || not here_) next marked).1
+received-owing : (badge : ℕ) (here_ next : Option (List Range)) (leads replies : Bool) (e : ℕ) → owing_for badge here_ next leads (Accepts e replies) ≡ true
+    → are_known next (ranges_received badge) ≡ true
+received-owing badge here_ next leads replies e kept = (and_parts (replies || not (is_some here_)) (are_known next (ranges_received badge)) kept).1
+
+-- where a thread is, is what it calls
+pub calls-same : (image : Image) (u : Numbered) (s after : State) (endpoint badge : ℕ)
+    → (thread_at after (tcb_of image u)).registers.pc ≡ (thread_at s (tcb_of image u)).registers.pc → CallsThere image after u endpoint badge
+    → CallsThere image s u endpoint badge
+calls-same image u s after endpoint badge pc calls = record {
+  asks = sym (asked-same image u s after pc) ∙ calls.asks;
+  carries = sym (ap (λ (k : ℕ). badge_noted image u (noted image u ((k - u.thread.header.base) / 4))) pc) ∙ calls.carries;
+}
 
 -- ---- which call receives
 
@@ -97,12 +117,31 @@ not-answered status runs_ awaits = let clash : Runnable ≡ AwaitsReply = sym ru
 not-blocked : {A : Type 0} (queue : ℕ) (status : Status) → status ≡ Blocked queue → status ≡ AwaitsReply → A
 not-blocked queue status blocked awaits = let clash : Blocked queue ≡ AwaitsReply = sym blocked ∙ awaits in absurd cc
 
-module _ (laws : Laws) (steps : AnyStepGoesWell) (told : (x y : ThreadState) → (x ≡ y) ⊎ (x ≢ y)) (bytes : List ℕ) (image : Image)
-    (accepted : IsAccepted bytes image) (endpoint : ℕ) (a : IsAnswered image endpoint)
+-- what is known where an instruction leads that is no system call
+on-way : (t : Thread) (badge : ℕ) (owed : ℕ → Option (List Range)) (point next : ℕ) (ranges : List Range) (asked : Asked) → asked ≡ Asks_nothing
+    → owed point ≡ Some ranges → owing_over t badge owed asked point next ≡ true → (instr : Instr) → instruction_at t point ≡ Some instr → IsPlain instr
+    → (edge : Edge) → Contains (edges_among (after_instr (address_of t point) instr ranges)) edge → edge.target ≡ address_of t next → (r : RegisterFile)
+    → LieWithin r edge.ranges → IsKnown (owed next) r
+on-way t badge owed point next ranges asked none here kept instr is plain edge among there r within =
+    let leads : Option (List Range) → Option Instr → Bool = λ known found.
+    option_map_or (λ (some : List Range). leads_known (address_of t point) (address_of t next) some (owed next) found) known true in
+    let known : leads_known (address_of t point) (address_of t next) ranges (owed next) (Some instr) ≡ true =
+    sym (ap (leads (Some ranges)) is) ∙ sym (ap (λ (known : Option (List Range)). leads known (instruction_at t point)) here)
+    ∙ sym (ap (owing_for badge (owed point) (owed next) (leads (owed point) (instruction_at t point))) none) ∙ kept in
+    let each = sym (plainly-known (address_of t point) (address_of t next) ranges (owed next) instr plain) ∙ known in
+    known-so (owed next) r edge.ranges
+    (or-then (not (edge.target == address_of t next)) (are_known (owed next) edge.ranges)
+    (ap not (eq-eqb edge.target (address_of t next) there))
+    (all-at (λ (e : Edge). not (e.target == address_of t next) || are_known (owed next) e.ranges)
+    (edges_among (after_instr (address_of t point) instr ranges)) edge among each)) within
+
+module _ (takes : InstructionsTakeEdges) (reaches : MappedAccessesDoNotFault) (decodes : DecodedFieldsLieInTheirRanges) (laws : Laws)
+    (steps : AnyStepGoesWell) (told : (x y : ThreadState) → (x ≡ y) ⊎ (x ≢ y)) (bytes : List ℕ) (image : Image)
+    (accepted : IsAccepted bytes image) (endpoint badge : ℕ) (a : IsAnswered image endpoint badge)
     (facts : (u : Numbered) → Contains (numbered_threads image) u → IsGiven image u) (s : State) (labels : List Label) (all : AllStand image s labels)
     (stay : StaysWithin image s Step (step s Step).0) (asked_so : (u : Numbered) → Contains (numbered_threads image) u → WaitsWhereAsked image u s)
     (owed : (u : Numbered) → Contains (numbered_threads image) u → (thread_at s (tcb_of image u)).status ≡ AwaitsReply
-    → asked_there image s u ≡ Calls endpoint → IsOwed image endpoint a u s) where
+    → CallsThere image s u endpoint badge → IsOwed image endpoint badge a u s) where
   abbrev after : State
   after = (step s Step).0
 
@@ -113,7 +152,7 @@ module _ (laws : Laws) (steps : AnyStepGoesWell) (told : (x y : ThreadState) →
   behind = (steps bytes image s labels accepted all).stands
 
   abbrev OwedThen : Numbered → State → Type 0
-  OwedThen c x = (thread_at x (tcb_of image c)).status ≡ AwaitsReply → asked_there image x c ≡ Calls endpoint → IsOwed image endpoint a c x
+  OwedThen c x = (thread_at x (tcb_of image c)).status ≡ AwaitsReply → CallsThere image x c endpoint badge → IsOwed image endpoint badge a c x
 
   module _ (t : Numbered) (listed : Contains (numbered_threads image) t) (now : current s ≡ Some (tcb_of image t)) where
     abbrev tcb : ℕ
@@ -144,28 +183,48 @@ module _ (laws : Laws) (steps : AnyStepGoesWell) (told : (x y : ThreadState) →
       moved-status = ap (λ (o : Option Object). (thread-of o).status) (put-at s.objects tcb new) ∙ own-status
 
       -- it owes the answer at the next point too
-      own-goes : (c : ℕ) → ReceivesAt image t endpoint → Owes image endpoint a s t c → Owes image endpoint a moved t c
-      own-goes c receives o =
-          let goes_ = RunsAlong.goes run in
-          let stands = RunsAlong.stands run in
-          let base = t.thread.header.base in
-          let at_point : point_now image s t ≡ RunsAlong.point run =
-          ap (λ (x : ThreadState). (x.registers.pc - base) / 4) (at-place s tcb (RunsAlong.own run) (RunsAlong.there run))
-          ∙ ap (λ (k : ℕ). (k - base) / 4) stands.pc ∙ point-of base (RunsAlong.point run) in
-          let at_next : point_now image moved t ≡ goes_.next =
-          ap (λ (x : Option Object). ((thread-of x).registers.pc - base) / 4) (put-at s.objects tcb new)
-          ∙ ap (λ (k : ℕ). (k - base) / 4) (goes_.pc ∙ goes_.target) ∙ point-of base goes_.next in
-          let marked = a.marked t (RunsAlong.point run) (RunsAlong.state run) goes_.next listed receives stands.inside stands.known
-          (record { edge = goes_.edge; among = goes_.among; inside = goes_.inside; target = goes_.target }) in
-          let here_ : owing_for true (a.marks t.number goes_.next) Asks_nothing ≡ true =
-          subst (λ (b : Bool). owing_for b (a.marks t.number goes_.next) Asks_nothing ≡ true) (ap (a.marks t.number) (sym at_point) ∙ o.owing)
-          (subst (λ (x : Asked). owing_for (a.marks t.number (RunsAlong.point run)) (a.marks t.number goes_.next) x ≡ true)
-          (asks-none image t s run free) marked) in
-          record {
-            right = ap (λ (x : Option Object). (thread-of x).caller) (put-at s.objects tcb new) ∙ o.right;
-            owing = ap (a.marks t.number) at_next ∙ here_;
-            awake = λ _. ap is_runnable moved-status;
-          }
+      module _ (c : ℕ) (receives : ReceivesAt image t endpoint) (o : Owes image endpoint badge a s t c) where
+        abbrev base : ℕ
+        base = t.thread.header.base
+
+        abbrev onward : ℕ
+        onward = (RunsAlong.goes run).next
+
+        leaves-point : point_now image s t ≡ RunsAlong.point run
+        leaves-point =
+            ap (λ (x : ThreadState). (x.registers.pc - base) / 4) (at-place s (tcb_of image t) (RunsAlong.own run) (RunsAlong.there run))
+            ∙ ap (λ (k : ℕ). (k - base) / 4) (RunsAlong.stands run).pc ∙ point-of base (RunsAlong.point run)
+
+        comes-to : point_now image moved t ≡ onward
+        comes-to =
+            ap (λ (x : Option Object). ((thread-of x).registers.pc - base) / 4) (put-at s.objects tcb new)
+            ∙ ap (λ (k : ℕ). (k - base) / 4) ((RunsAlong.goes run).pc ∙ (RunsAlong.goes run).target) ∙ point-of base onward
+
+        plainly-kept : owing_over t.thread badge (a.owed t.number) (asked_at image t.thread (RunsAlong.point run) (RunsAlong.state run))
+            (RunsAlong.point run) onward ≡ true
+        plainly-kept =
+            let goes_ = RunsAlong.goes run in
+            a.kept t (RunsAlong.point run) (RunsAlong.state run) goes_.next listed receives (RunsAlong.stands run).inside (RunsAlong.stands run).known
+            (record { edge = goes_.edge; among = goes_.among; inside = goes_.inside; target = goes_.target })
+
+        plain-known : IsKnown (a.owed t.number onward) (RunsAlong.goes run).registers
+        plain-known =
+            let way = takes-from takes reaches decodes image t (facts t listed) s all.sound now free run o.ranges o.long o.within in
+            on-way t.thread badge (a.owed t.number) (RunsAlong.point run) onward o.ranges
+            (asked_at image t.thread (RunsAlong.point run) (RunsAlong.state run)) (asks-none image t s run free)
+            (ap (a.owed t.number) (sym leaves-point) ∙ o.owing) plainly-kept way.instr way.is way.plain way.edge way.among
+            (sym way.there ∙ (RunsAlong.goes run).pc ∙ (RunsAlong.goes run).target) (RunsAlong.goes run).registers way.within
+
+        own-goes : Owes image endpoint badge a moved t c
+        own-goes = record {
+          right = ap (λ (x : Option Object). (thread-of x).caller) (put-at s.objects tcb new) ∙ o.right;
+          ranges = plain-known.ranges;
+          owing = ap (a.owed t.number) comes-to ∙ plain-known.is;
+          long = plain-known.long;
+          within = subst (λ (x : RegisterFile). LieWithin x plain-known.ranges)
+              (sym (ap (λ (x : Option Object). (thread-of x).registers) (put-at s.objects tcb new))) plain-known.within;
+          awake = λ _. ap is_runnable moved-status;
+        }
 
       plain-owed : (c : Numbered) → Contains (numbered_threads image) c → OwedThen c moved
       plain-owed c among awaits calls_ = elim (eqb_tells (tcb_of image c) tcb) [
@@ -173,11 +232,11 @@ module _ (laws : Laws) (steps : AnyStepGoesWell) (told : (x y : ThreadState) →
         | inr apart ↦ by-debt apart.1
       ]
         where
-          by-debt : tcb_of image c ≢ tcb_of image t → IsOwed image endpoint a c moved
+          by-debt : tcb_of image c ≢ tcb_of image t → IsOwed image endpoint badge a c moved
           by-debt apart =
               let same = elsewhere c apart in
               let debt = owed c among (ap (λ (u : ThreadState). u.status) (sym same) ∙ awaits)
-              (sym (asked-same image c s moved (ap (λ (u : ThreadState). u.registers.pc) same)) ∙ calls_) in
+              (calls-same image c s moved endpoint badge (ap (λ (u : ThreadState). u.registers.pc) same) calls_) in
               record {
                 server = debt.server;
                 listed = debt.listed;
@@ -185,18 +244,18 @@ module _ (laws : Laws) (steps : AnyStepGoesWell) (told : (x y : ThreadState) →
                 owes = elim (eqb_tells (tcb_of image debt.server) tcb) [
                   | inl here_ ↦ (
                       let one = one-block debt.server debt.listed here_.1 in
-                      subst (λ (u : Numbered). Owes image endpoint a moved u (tcb_of image c)) (sym one)
+                      subst (λ (u : Numbered). Owes image endpoint badge a moved u (tcb_of image c)) (sym one)
                       (own-goes (tcb_of image c) (subst (λ (u : Numbered). ReceivesAt image u endpoint) one debt.receives)
-                      (subst (λ (u : Numbered). Owes image endpoint a s u (tcb_of image c)) one debt.owes)))
+                      (subst (λ (u : Numbered). Owes image endpoint badge a s u (tcb_of image c)) one debt.owes)))
                   | inr other ↦ (
                       let stays = elsewhere debt.server other.1 in
-                      still-owes image endpoint a s moved debt.server (tcb_of image c) (ap (λ (u : ThreadState). u.caller) stays)
-                      (ap (λ (u : ThreadState). u.status) stays) (ap (λ (u : ThreadState). u.registers.pc) stays) debt.owes)
+                      still-owes image endpoint badge a s moved debt.server (tcb_of image c) (ap (λ (u : ThreadState). u.caller) stays)
+                      (ap (λ (u : ThreadState). u.status) stays) (ap (λ (u : ThreadState). u.registers) stays) debt.owes)
                 ];
               }
 
       pub plain-keeps : (c : Numbered) → Contains (numbered_threads image) c → (thread_at (step s Step).0 (tcb_of image c)).status ≡ AwaitsReply
-          → asked_there image (step s Step).0 c ≡ Calls endpoint → IsOwed image endpoint a c (step s Step).0
+          → CallsThere image (step s Step).0 c endpoint badge → IsOwed image endpoint badge a c (step s Step).0
       plain-keeps c among = subst (OwedThen c) (sym (RunsAlong.goes run).after) (plain-owed c among)
 
     -- ---- a system call
@@ -224,6 +283,9 @@ module _ (laws : Laws) (steps : AnyStepGoesWell) (told : (x y : ThreadState) →
           ∙ next-address t.thread.header.base t.thread.header.words point (laws.below.ends bytes image t accepted listed)
           (next-inside laws.below bytes image accepted t listed point state answer at.stands.inside at.stands.known at.ecall at.call)
 
+      fine-now : ThreadIsSound (thread_at s (tcb_of image t))
+      fine-now = subst ThreadIsSound (sym (at-place s tcb mine at.there)) (all.sound.threads.threads tcb mine at.there)
+
       spot : (point_now image s t ≡ point) × (asked_there image s t ≡ asked_at image t.thread point state)
       spot = asks-there image t s mine point state at.there at.stands
 
@@ -233,11 +295,22 @@ module _ (laws : Laws) (steps : AnyStepGoesWell) (told : (x y : ThreadState) →
           (pc ∙ ap (λ (u : ThreadState). (u.registers.pc + 4) % 2 ^ 32) (at-place s tcb mine at.there) ∙ next-is)
           ∙ point-of t.thread.header.base (point + 1)
 
-      edge : ReceivesAt image t endpoint → owing_for (a.marks t.number point) (a.marks t.number (point + 1)) (asked_now s (tcb_of image t)) ≡ true
-      edge receives =
-          subst (λ (x : Asked). owing_for (a.marks t.number point) (a.marks t.number (point + 1)) x ≡ true) asks
-          (a.marked t point state (point + 1) listed receives at.stands.inside at.stands.known
-          (call-leads laws.below bytes image accepted t listed point state answer at.stands.inside at.stands.known at.ecall at.call))
+      -- what is owed over the call
+      kept-over : ReceivesAt image t endpoint
+          → owing_over t.thread badge (a.owed t.number) (asked_at image t.thread point state) point (point + 1) ≡ true
+      kept-over receives =
+          a.kept t point state (point + 1) listed receives at.stands.inside at.stands.known
+          (call-leads laws.below bytes image accepted t listed point state answer at.stands.inside at.stands.known at.ecall at.call)
+
+      -- once it has the message of a caller with this badge
+      first-known : ReceivesAt image t endpoint → (replies : Bool) (e : ℕ) → asked_now s (tcb_of image t) ≡ Accepts e replies
+          → are_known (a.owed t.number (point + 1)) (ranges_received badge) ≡ true
+      first-known receives replies e is =
+          let here_ = a.owed t.number point in
+          let leads = option_map_or (λ (some : List Range). leads_known (address_of t.thread point) (address_of t.thread (point + 1)) some
+          (a.owed t.number (point + 1)) (instruction_at t.thread point)) here_ true in
+          received-owing badge here_ (a.owed t.number (point + 1)) leads replies e
+          (sym (ap (owing_for badge here_ (a.owed t.number (point + 1)) leads) (asks ∙ is)) ∙ kept-over receives)
 
       -- the thread is not stopped
       never-stops : (thread_at after tcb).status ≡ Inactive → ⊥
@@ -263,57 +336,76 @@ module _ (laws : Laws) (steps : AnyStepGoesWell) (told : (x y : ThreadState) →
 
       -- ---- its own right
 
-      right-stays : keeps_right asked ≡ true → (thread_at after tcb).caller ≡ (thread_at s tcb).caller
-      right-stays keeps = elim (either-invokes s tcb) [
-        | inl nothing ↦ (
-            ap (λ (x : State). (thread_at x tcb).caller) after-is
-            ∙ right-kept s tcb mine at.there at.status (memory_base + tcb) (registers_of s tcb).pc
+      aside : keeps_right asked ≡ true → KeepsAside (s.objects (tcb_of image t)) ((step s Step).0.objects (tcb_of image t))
+      aside keeps = elim (either-invokes s tcb) [
+        | inl nothing ↦
+            subst (λ (x : State). KeepsAside (s.objects tcb) (x.objects tcb)) (sym after-is)
+            (right-kept s tcb mine at.there at.status (memory_base + tcb) (registers_of s tcb).pc
             (doors-apart laws bytes image s labels accepted all t listed mine at.there at.status)
-            (λ slot e r badge named is. endpoint-kind (s.objects e) (all.sound.memory.named slot NewEndpoint e (ap object_named is)))
-            (λ slot o r badge named is. notification-kind (s.objects o) (all.sound.memory.named slot NewNotification o (ap object_named is)))
+            (λ slot e r badge_ named is. endpoint-kind (s.objects e) (all.sound.memory.named slot NewEndpoint e (ap object_named is)))
+            (λ slot o r badge_ named is. notification-kind (s.objects o) (all.sound.memory.named slot NewNotification o (ap object_named is)))
             keeps nothing fine)
         | inr i ↦ (
             invoked-leaves laws bytes image s labels accepted all t listed mine at.there at.status now makes
-            (λ x. (thread_at x tcb).caller ≡ (thread_at s tcb).caller)
-            (λ kind x same. completed-keeps x tcb kind tcb ∙ ap caller-of same) i)
+            (λ x. KeepsAside (s.objects tcb) (x.objects tcb))
+            (λ kind x same. then-aside (s.objects tcb) (x.objects tcb) ((completed x tcb kind).objects tcb) (unmoved (s.objects tcb) (x.objects tcb) same)
+            (completed-keeps x tcb kind tcb)) i)
       ]
 
-      module _ (c : ℕ) (receives : ReceivesAt image t endpoint) (o : Owes image endpoint a s t c) (awaits_before : (thread_at s c).status ≡ AwaitsReply)
+      module _ (c : ℕ) (receives : ReceivesAt image t endpoint) (o : Owes image endpoint badge a s t c) (awaits_before : (thread_at s c).status ≡ AwaitsReply)
           (awaits : (thread_at (step s Step).0 c).status ≡ AwaitsReply) where
-        owes-edge : owing_for true (a.marks t.number (point + 1)) asked ≡ true
+        abbrev over : Asked → Bool
+        over = owing_for badge (Some o.ranges) (a.owed t.number (point + 1)) (are_known (a.owed t.number (point + 1)) (ranges_after_call o.ranges))
+
+        owes-edge : over asked ≡ true
         owes-edge =
-            subst (λ (b : Bool). owing_for b (a.marks t.number (point + 1)) asked ≡ true) (ap (a.marks t.number) (sym spot.0) ∙ o.owing) (edge receives)
+            sym (ap over asks)
+            ∙ over-call t.thread badge (a.owed t.number) point (point + 1) o.ranges (asked_at image t.thread point state) at.ecall
+            (ap (a.owed t.number) (sym spot.0) ∙ o.owing) (kept-over receives)
 
-        edge-as : (x : Asked) → asked ≡ x → owing_for true (a.marks t.number (point + 1)) x ≡ true
-        edge-as x is = subst (λ (y : Asked). owing_for true (a.marks t.number (point + 1)) y ≡ true) is owes-edge
+        edge-as : (x : Asked) → asked ≡ x → over x ≡ true
+        edge-as x is = subst (λ (y : Asked). over y ≡ true) is owes-edge
 
-        goes-owing : keeps_right asked ≡ true → a.marks t.number (point + 1) ≡ true → (thread_at after tcb).status ≡ Runnable
-            → pc_at after tcb ≡ (pc_at s tcb + 4) % 2 ^ 32 → Owes image endpoint a after t c
-        goes-owing keeps next runs_ pc = record {
-          right = right-stays keeps ∙ o.right;
-          owing = ap (a.marks t.number) (at-next pc) ∙ next;
-          awake = λ _. ap is_runnable runs_;
-        }
+        goes-owing : keeps_right asked ≡ true → are_known (a.owed t.number (point + 1)) (ranges_after_call o.ranges) ≡ true
+            → (thread_at after tcb).status ≡ Runnable → pc_at after tcb ≡ (pc_at s tcb + 4) % 2 ^ 32 → Owes image endpoint badge a after t c
+        goes-owing keeps next runs_ pc =
+            let left = aside keeps in
+            let known = known-so (a.owed t.number (point + 1)) (thread_at after tcb).registers (ranges_after_call o.ranges) next
+            (called-within (thread_at s tcb).registers (thread_at after tcb).registers o.ranges o.long (thread-small image t after later behind listed)
+            left.registers o.within) in
+            record {
+              right = left.right ∙ o.right;
+              ranges = known.ranges;
+              owing = ap (a.owed t.number) (at-next pc) ∙ known.is;
+              long = known.long;
+              within = known.within;
+              awake = λ _. ap is_runnable runs_;
+            }
 
-        stays-owing : keeps_right asked ≡ true → is_accept asked ≡ false → pc_at after tcb ≡ pc_at s tcb → Owes image endpoint a after t c
-        stays-owing keeps none pc = record {
-          right = right-stays keeps ∙ o.right;
-          owing = ap (λ (k : ℕ). a.marks t.number ((k - t.thread.header.base) / 4)) pc ∙ o.owing;
+        stays-owing : keeps_right asked ≡ true → is_accept asked ≡ false → registers_of after tcb ≡ registers_of s tcb → Owes image endpoint badge a after t c
+        stays-owing keeps none same = record {
+          right = (aside keeps).right ∙ o.right;
+          ranges = o.ranges;
+          owing = ap (λ (r : RegisterFile). a.owed t.number ((r.pc - t.thread.header.base) / 4)) same ∙ o.owing;
+          long = o.long;
+          within = subst (λ (r : RegisterFile). LieWithin r o.ranges) (sym same) o.within;
           awake = λ accepts_. absurd (let clash : false ≡ true = sym none ∙ sym (ap is_accept (spot.1 ∙ asks))
-              ∙ sym (ap is_accept (asked-same image t s after pc)) ∙ accepts_ in cc);
+              ∙ sym (ap is_accept (asked-same image t s after (stays-pc s after tcb same))) ∙ accepts_ in cc);
         }
 
-        free-owing : keeps_right asked ≡ true → may_wait asked ≡ false → a.marks t.number (point + 1) ≡ true → Owes image endpoint a after t c
+        free-owing : keeps_right asked ≡ true → may_wait asked ≡ false → are_known (a.owed t.number (point + 1)) (ranges_after_call o.ranges) ≡ true
+            → Owes image endpoint badge a after t c
         free-owing keeps free next =
             let runs_ = free-runs free in
             goes-owing keeps next runs_
             (goes laws steps told bytes image accepted s labels all stay t listed now makes mine point state answer at free (ap is_runnable runs_))
 
-        by-ends : (e : ℕ) (is_call : Bool) → keeps_right asked ≡ true → is_accept asked ≡ false → a.marks t.number (point + 1) ≡ true
-            → SendEnds s (tcb_of image t) e is_call after → Owes image endpoint a after t c
+        by-ends : (e : ℕ) (is_call : Bool) → keeps_right asked ≡ true → is_accept asked ≡ false
+            → are_known (a.owed t.number (point + 1)) (ranges_after_call o.ranges) ≡ true → SendEnds s (tcb_of image t) e is_call after
+            → Owes image endpoint badge a after t c
         by-ends e is_call keeps none next (sent_passed status pc) = goes-owing keeps next status pc
-        by-ends e is_call keeps none next (sent_queued status pc q is nobody) = stays-owing keeps none pc
-        by-ends e is_call keeps none next (sent_awaits y rest status pc so first right) = stays-owing keeps none pc
+        by-ends e is_call keeps none next (sent_queued status same q is nobody) = stays-owing keeps none same
+        by-ends e is_call keeps none next (sent_awaits y rest status same so first right) = stays-owing keeps none same
         by-ends e is_call keeps none next (sent_stopped status) = absurd (never-stops status)
 
         -- it has not answered, since who waits for the answer waits still
@@ -321,12 +413,12 @@ module _ (laws : Laws) (steps : AnyStepGoesWell) (told : (x y : ThreadState) →
         no-answer answers_ =
             let answered_ = answered-runs s tcb mine at.there at.status (memory_base + tcb) (registers_of s tcb).pc
             (doors-apart laws bytes image s labels accepted all t listed mine at.there at.status)
-            (λ slot e r badge named is. endpoint-kind (s.objects e) (all.sound.memory.named slot NewEndpoint e (ap object_named is)))
-            (λ slot o r badge named is. notification-kind (s.objects o) (all.sound.memory.named slot NewNotification o (ap object_named is)))
+            (λ slot e r badge_ named is. endpoint-kind (s.objects e) (all.sound.memory.named slot NewEndpoint e (ap object_named is)))
+            (λ slot o r badge_ named is. notification-kind (s.objects o) (all.sound.memory.named slot NewNotification o (ap object_named is)))
             c o.right awaits_before (λ e q is y among. sender-blocked s all.sound e q is y among) answers_ fine in
             not-answered (thread_at after c).status (ap (λ (x : State). (thread_at x c).status) after-is ∙ answered_) awaits
 
-        by-asked : (x : Asked) → asked_now s (tcb_of image t) ≡ x → Owes image endpoint a after t c
+        by-asked : (x : Asked) → asked_now s (tcb_of image t) ≡ x → Owes image endpoint badge a after t c
         by-asked (Takes e) is = absurd (let clash : false ≡ true = edge-as (Takes e) is in cc)
         by-asked (Looks e) is = absurd (let clash : false ≡ true = edge-as (Looks e) is in cc)
         by-asked (Accepts e true) is = absurd (no-answer (ap answers_first is))
@@ -344,22 +436,21 @@ module _ (laws : Laws) (steps : AnyStepGoesWell) (told : (x y : ThreadState) →
         by-asked (Tries e) is = free-owing (ap keeps_right is) (ap may_wait is) (edge-as (Tries e) is)
         by-asked Asks_nothing is = free-owing (ap keeps_right is) (ap may_wait is) (edge-as Asks_nothing is)
 
-        own-owes : Owes image endpoint a after t c
+        own-owes : Owes image endpoint badge a after t c
         own-owes = by-asked asked refl
 
       -- ---- another thread that waits for an answer
 
       module _ (c : Numbered) (among : Contains (numbered_threads image) c) (apart : tcb_of image c ≢ tcb_of image t)
-          (awaits : (thread_at (step s Step).0 (tcb_of image c)).status ≡ AwaitsReply) (calls_ : asked_there image (step s Step).0 c ≡ Calls endpoint) where
+          (awaits : (thread_at (step s Step).0 (tcb_of image c)).status ≡ AwaitsReply) (calls_ : CallsThere image (step s Step).0 c endpoint badge) where
         abbrev place : ℕ
         place = tcb_of image c
 
         -- it waited already
-        waited : (thread_at after (tcb_of image c)) ≡ (thread_at s (tcb_of image c)) → IsOwed image endpoint a c after
+        waited : (thread_at after (tcb_of image c)) ≡ (thread_at s (tcb_of image c)) → IsOwed image endpoint badge a c after
         waited same =
             let awaits_before = ap (λ (u : ThreadState). u.status) (sym same) ∙ awaits in
-            let debt = owed c among awaits_before
-            (sym (asked-same image c s after (ap (λ (u : ThreadState). u.registers.pc) same)) ∙ calls_) in
+            let debt = owed c among awaits_before (calls-same image c s after endpoint badge (ap (λ (u : ThreadState). u.registers.pc) same) calls_) in
             record {
               server = debt.server;
               listed = debt.listed;
@@ -367,21 +458,22 @@ module _ (laws : Laws) (steps : AnyStepGoesWell) (told : (x y : ThreadState) →
               owes = elim (eqb_tells (tcb_of image debt.server) tcb) [
                 | inl here_ ↦ (
                     let one = one-block debt.server debt.listed here_.1 in
-                    subst (λ (u : Numbered). Owes image endpoint a after u place) (sym one)
+                    subst (λ (u : Numbered). Owes image endpoint badge a after u place) (sym one)
                     (own-owes place (subst (λ (u : Numbered). ReceivesAt image u endpoint) one debt.receives)
-                    (subst (λ (u : Numbered). Owes image endpoint a s u place) one debt.owes) awaits_before awaits))
+                    (subst (λ (u : Numbered). Owes image endpoint badge a s u place) one debt.owes) awaits_before awaits))
                 | inr other ↦
-                    other-owes laws.below bytes image accepted endpoint a s labels all debt.server debt.listed debt.receives place debt.owes after later behind
-                    told t (own laws steps told bytes image accepted s labels all stay t listed now).within other.1 (asked_so debt.server debt.listed)
+                    other-owes laws.below bytes image accepted endpoint badge a s labels all debt.server debt.listed debt.receives place debt.owes after later
+                    behind told t (own laws steps told bytes image accepted s labels all stay t listed now).within other.1 (asked_so debt.server debt.listed)
               ];
             }
 
         -- or its call was received by this thread
         module _ (e : ℕ) (first : Sender) (gone : TakesSender s after e first) (its_own : first.thread ≡ tcb_of image c) (sent : first.sent ≡ ByCall)
-            (grants : first.grant_reply ≡ true) (named : CallNames image t.thread s (ReceivesFrom e)) (same : e ≡ endpoint) where
+            (grants : first.grant_reply ≡ true) (named : CallNames image t.thread s (ReceivesFrom e)) (same : e ≡ endpoint)
+            (carried : first.badge ≡ badge) where
           by-ends-of : ReceiveEnds s (tcb_of image t) e after → (replies : Bool) → asked_now s (tcb_of image t) ≡ Accepts e replies
-              → IsOwed image endpoint a c after
-          by-ends-of (got_one other rest status pc head left right) replies is =
+              → IsOwed image endpoint badge a c after
+          by-ends-of (got_one other rest status pc head left right message got) replies is =
               let heads : other ∷ rest ≡ first ∷ (endpoint_at after e).senders = sym head ∙ gone.leaves in
               let alike : other ≡ first = cc in
               let receives : ReceivesAt image t endpoint = record {
@@ -392,6 +484,12 @@ module _ (laws : Laws) (steps : AnyStepGoesWell) (told : (x y : ThreadState) →
                 replies = replies;
                 asks = asks ∙ is ∙ ap (λ (k : ℕ). Accepts k replies) same;
               } in
+              let own_fine = fine-now in
+              let has_badge : read (registers_of after tcb) a0 ≡ badge =
+              ap (λ (r : RegisterFile). read r a0) got ∙ badge-read (registers_of s tcb) other.badge message own_fine.registers
+              ∙ ap (λ (x : Sender). x.badge) alike ∙ carried in
+              let known = known-so (a.owed t.number (point + 1)) (registers_of after tcb) (ranges_received badge) (first-known receives replies e is)
+              (received-within (registers_of after tcb) badge (thread-small image t after later behind listed) has_badge) in
               record {
                 server = t;
                 listed = listed;
@@ -399,16 +497,17 @@ module _ (laws : Laws) (steps : AnyStepGoesWell) (told : (x y : ThreadState) →
                 owes = record {
                   right = right (ap (λ (x : Sender). x.sent) alike ∙ sent) (ap (λ (x : Sender). x.grant_reply) alike ∙ grants)
                       ∙ ap (λ (x : Sender). Some x.thread) alike ∙ ap (λ (k : ℕ). Some k) its_own;
-                  owing = ap (a.marks t.number) (at-next pc)
-                      ∙ received-owing (a.marks t.number point) (a.marks t.number (point + 1)) replies e
-                      (subst (λ (x : Asked). owing_for (a.marks t.number point) (a.marks t.number (point + 1)) x ≡ true) is (edge receives));
+                  ranges = known.ranges;
+                  owing = ap (a.owed t.number) (at-next pc) ∙ known.is;
+                  long = known.long;
+                  within = known.within;
                   awake = λ _. ap is_runnable status;
                 };
               }
           by-ends-of (stays_there status pc nobody) replies is =
               absurd (let clash : ◌≡◌ {A = List Sender} [] (first ∷ (endpoint_at after e).senders) = sym nobody ∙ gone.leaves in cc)
 
-          received : IsOwed image endpoint a c after
+          received : IsOwed image endpoint badge a c after
           received =
               let says = asks-of image t.thread s after all.sound.slots.derivation.valid (ReceivesFrom e) named in
               elim (asks-message e named.call (capability_at s.slots named.slot) named.such) [
@@ -435,7 +534,7 @@ module _ (laws : Laws) (steps : AnyStepGoesWell) (told : (x y : ThreadState) →
 
           by-sent : (e : ℕ) (first : Sender) (kind : Sent) → first.sent ≡ kind → TakesSender s after e first → first.thread ≡ tcb_of image c
               → before.status ≡ Blocked e → CallNames image t.thread s (ReceivesFrom e) → changed ≡ once_received first kind before
-              → IsOwed image endpoint a c after
+              → IsOwed image endpoint badge a c after
           by-sent e first BySend sent gone its_own blocked named so = not-answered changed.status (ap (λ (u : ThreadState). u.status) so) awaits_now
           by-sent e first (ByFault fault) sent gone its_own blocked named so =
               absurd (let clash : AwaitsHandler ≡ AwaitsReply = sym (ap (λ (u : ThreadState). u.status) so) ∙ awaits_now in cc)
@@ -449,22 +548,28 @@ module _ (laws : Laws) (steps : AnyStepGoesWell) (told : (x y : ThreadState) →
               its_own) [
                 | as_sender is_send asks_ ↦ absurd (let clash : BySend ≡ ByCall = sym is_send ∙ sent in cc)
                 | as_caller is_call grants asks_ ↦ (
-                    let same : Calls e ≡ Calls endpoint = sym asks_ ∙ sym (here laws.below bytes image s labels accepted all c among before v).1
-                    ∙ sym (asked-same image c s after (ap (λ (u : ThreadState). u.registers.pc) (at_changed ∙ so)
-                    ∙ sym (ap (λ (u : ThreadState). u.registers.pc) at_before))) ∙ calls_ in
-                    received e first gone its_own sent grants named (one-call same))
+                    let before_ : CallsThere image s c endpoint badge =
+                    calls-same image c s after endpoint badge
+                    (ap (λ (u : ThreadState). u.registers.pc) (at_changed ∙ so) ∙ sym (ap (λ (u : ThreadState). u.registers.pc) at_before)) calls_ in
+                    let at_v = here laws.below bytes image s labels accepted all c among before v in
+                    let same : Calls e ≡ Calls endpoint = sym asks_ ∙ sym at_v.1 ∙ before_.asks in
+                    let carried : first.badge ≡ badge =
+                    badge-there laws.below bytes image s labels accepted all c among before v (asked_so c among) e blocked found.0 found.1 first place_ its_own
+                    ∙ sym (ap (badge_noted image c) v.stands.known) ∙ sym (ap (λ (k : ℕ). badge_noted image c (noted image c k)) at_v.0) ∙ before_.carries in
+                    received e first gone its_own sent grants named (one-call same) carried)
               ]
 
           handled : (b : Bool) (x y : ThreadState) → x.status ≡ Runnable → y.status ≡ Inactive → (if b then x else y).status ≡ AwaitsReply
-              → IsOwed image endpoint a c after
+              → IsOwed image endpoint badge a c after
           handled true x y runs_ stops is_ = not-answered x.status runs_ is_
           handled false x y runs_ stops is_ = absurd (let clash : Inactive ≡ AwaitsReply = sym stops ∙ is_ in cc)
 
-          by-reason : Reason s after (self_of image t.thread) (CallNames image t.thread s) (tcb_of image c) before changed → IsOwed image endpoint a c after
-          by-reason (receiver e badge right gone blocked named may so arrives) =
+          by-reason : Reason s after (self_of image t.thread) (CallNames image t.thread s) (tcb_of image c) before changed
+              → IsOwed image endpoint badge a c after
+          by-reason (receiver e word right gone blocked named may so arrives) =
               not-answered changed.status (ap (λ (u : ThreadState). u.status) so) awaits_now
           by-reason (sender e first gone its_own blocked named so arrives) = by-sent e first first.sent refl gone its_own blocked named so
-          by-reason (waiter bell badge gone blocked named so) = not-answered changed.status (ap (λ (u : ThreadState). u.status) so) awaits_now
+          by-reason (waiter bell word gone blocked named so) = not-answered changed.status (ap (λ (u : ThreadState). u.status) so) awaits_now
           by-reason (caller right was_awaiting so arrives) = not-answered changed.status (ap (λ (u : ThreadState). u.status) so) awaits_now
           by-reason (faulted right was_awaiting so) =
               let handler = thread_at s (self_of image t.thread) in
@@ -473,7 +578,7 @@ module _ (laws : Laws) (steps : AnyStepGoesWell) (told : (x y : ThreadState) →
               refl refl (sym (ap (λ (u : ThreadState). u.status) so) ∙ awaits_now)
           by-reason (set_back queue blocked some gone so) = not-answered changed.status (ap (λ (u : ThreadState). u.status) so) awaits_now
 
-          by-states : IsOwed image endpoint a c after
+          by-states : IsOwed image endpoint badge a c after
           by-states = elim (told before changed) [
             | inl same ↦ waited (at_changed ∙ sym same ∙ sym at_before)
             | inr differs ↦
@@ -481,7 +586,7 @@ module _ (laws : Laws) (steps : AnyStepGoesWell) (told : (x y : ThreadState) →
                 differs)
           ]
 
-        other-owed : IsOwed image endpoint a c after
+        other-owed : IsOwed image endpoint badge a c after
         other-owed =
             let was = there-is image c s labels (all.stand c among) in
             let is = there-is image c after later (behind.stand c among) in
@@ -489,8 +594,8 @@ module _ (laws : Laws) (steps : AnyStepGoesWell) (told : (x y : ThreadState) →
 
       -- ---- it begins to wait itself: the first that receives there has the right to reply to it
 
-      module _ (y : ℕ) (rest : List ℕ) (e : ℕ) (first : (endpoint_at s e).receivers ≡ y ∷ rest) (same : e ≡ endpoint)
-          (right : (thread_at (step s Step).0 y).caller ≡ Some (tcb_of image t)) where
+      module _ (y : ℕ) (rest : List ℕ) (e : ℕ) (first : (endpoint_at s e).receivers ≡ y ∷ rest) (same : e ≡ endpoint) (carries : badge_at image t state ≡ badge)
+          (asks_call : asked_now s (tcb_of image t) ≡ Calls e) (right : (thread_at (step s Step).0 y).caller ≡ Some (tcb_of image t)) where
         gate : (q : EndpointState) × (s.objects e ≡ Some (EndpointObject q)) × (q.receivers ≡ y ∷ rest)
         gate = gate-of y rest (s.objects e) first
 
@@ -527,12 +632,15 @@ module _ (laws : Laws) (steps : AnyStepGoesWell) (told : (x y : ThreadState) →
             asks = accepts_.1 ∙ ap (λ (k : ℕ). Accepts k accepts_.0) same;
           }
 
-          next-marked : a.marks r.number (v.point + 1) ≡ true
-          next-marked =
-              received-owing (a.marks r.number v.point) (a.marks r.number (v.point + 1)) accepts_.0 e
-              (subst (λ (x : Asked). owing_for (a.marks r.number v.point) (a.marks r.number (v.point + 1)) x ≡ true) accepts_.1
-              (a.marked r v.point v.state (v.point + 1) among receives_ v.stands.inside v.stands.known
-              (leads-on laws.below bytes image s labels accepted all r among (Waits.own waits_) v)))
+          next-known : are_known (a.owed r.number (v.point + 1)) (ranges_received badge) ≡ true
+          next-known =
+              let here_ = a.owed r.number v.point in
+              let leads = option_map_or (λ (some : List Range). leads_known (address_of r.thread v.point) (address_of r.thread (v.point + 1)) some
+              (a.owed r.number (v.point + 1)) (instruction_at r.thread v.point)) here_ true in
+              received-owing badge here_ (a.owed r.number (v.point + 1)) leads accepts_.0 e
+              (sym (ap (owing_for badge here_ (a.owed r.number (v.point + 1)) leads) accepts_.1)
+              ∙ a.kept r v.point v.state (v.point + 1) among receives_ v.stands.inside v.stands.known
+              (leads-on laws.below bytes image s labels accepted all r among (Waits.own waits_) v))
 
           right_r : (thread_at after (tcb_of image r)).caller ≡ Some (tcb_of image t)
           right_r = ap (λ (k : ℕ). (thread_at after k).caller) (sym is_r) ∙ right
@@ -560,28 +668,39 @@ module _ (laws : Laws) (steps : AnyStepGoesWell) (told : (x y : ThreadState) →
             was_r : thread_at s (tcb_of image r) ≡ before
             was_r = ap thread-of there_r
 
-            keeps_r : changed.caller ≡ before.caller → Owes image endpoint a after r tcb
+            keeps_r : changed.caller ≡ before.caller → Owes image endpoint badge a after r tcb
             keeps_r kept = no-right (ap (λ (u : ThreadState). u.caller) now_r ∙ kept ∙ sym (ap (λ (u : ThreadState). u.caller) was_r))
 
             by-reason-of : Reason s after (self_of image t.thread) (CallNames image t.thread s) (tcb_of image r) before changed
-                → Owes image endpoint a after r tcb
-            by-reason-of (receiver o badge given gone blocked named may so arrives) = record {
-              right = right_r;
-              owing = ap (a.marks r.number) (ap (λ (k : ℕ). (k - r.thread.header.base) / 4)
-                  (ap (λ (u : ThreadState). u.registers.pc) (now_r ∙ so)
-                  ∙ ap (λ (k : ℕ). (k + 4) % 2 ^ 32) (delivered-pc before.registers badge (message_between s (self_of image t.thread) (tcb_of image r)))
-                  ∙ next-pc laws.below bytes image s labels accepted all r among before v) ∙ point-of r.thread.header.base (v.point + 1)) ∙ next-marked;
-              awake = λ _. ap is_runnable (ap (λ (u : ThreadState). u.status) (now_r ∙ so));
-            }
+                → Owes image endpoint badge a after r tcb
+            by-reason-of (receiver o word given gone blocked named may so arrives) =
+                let message = message_between s (self_of image t.thread) (tcb_of image r) in
+                let has_badge : read (thread_at after (tcb_of image r)).registers a0 ≡ badge =
+                ap (λ (u : ThreadState). read u.registers a0) (now_r ∙ so)
+                ∙ badge-read before.registers word message (all.sound.threads.threads (tcb_of image r) before there_r).registers
+                ∙ ap badge_of (sym named.such.is) ∙ sym (ap (λ (l : Result ℕ LookupFailure). badge_of (capability_found s.slots l)) named.named)
+                ∙ sym (ap badge_of (names-so laws.below bytes image s labels accepted t listed mine point state answer at e (asks ∙ asks_call))) ∙ carries in
+                let known = known-so (a.owed r.number (v.point + 1)) (thread_at after (tcb_of image r)).registers (ranges_received badge) next-known
+                (received-within (thread_at after (tcb_of image r)).registers badge (thread-small image r after later behind among) has_badge) in
+                record {
+                  right = right_r;
+                  ranges = known.ranges;
+                  owing = ap (a.owed r.number) (ap (λ (k : ℕ). (k - r.thread.header.base) / 4)
+                      (ap (λ (u : ThreadState). u.registers.pc) (now_r ∙ so) ∙ ap (λ (k : ℕ). (k + 4) % 2 ^ 32) (delivered-pc before.registers word message)
+                      ∙ next-pc laws.below bytes image s labels accepted all r among before v) ∙ point-of r.thread.header.base (v.point + 1)) ∙ known.is;
+                  long = known.long;
+                  within = known.within;
+                  awake = λ _. ap is_runnable (ap (λ (u : ThreadState). u.status) (now_r ∙ so));
+                }
             by-reason-of (sender o other gone its_own blocked named so arrives) =
                 keeps_r (ap (λ (u : ThreadState). u.caller) so ∙ received-right other other.sent before)
-            by-reason-of (waiter bell badge gone blocked named so) = keeps_r (ap (λ (u : ThreadState). u.caller) so)
+            by-reason-of (waiter bell word gone blocked named so) = keeps_r (ap (λ (u : ThreadState). u.caller) so)
             by-reason-of (caller held was_awaiting so arrives) = keeps_r (ap (λ (u : ThreadState). u.caller) so)
             by-reason-of (faulted held was_awaiting so) =
                 absurd (let clash : Blocked e ≡ AwaitsHandler = sym (Waits.blocked waits_) ∙ was_awaiting in cc)
             by-reason-of (set_back queue blocked some gone so) = keeps_r (ap (λ (u : ThreadState). u.caller) so)
 
-            by-states-of : Owes image endpoint a after r tcb
+            by-states-of : Owes image endpoint badge a after r tcb
             by-states-of = elim (told before changed) [
               | inl alike ↦ keeps_r (ap (λ (u : ThreadState). u.caller) (sym alike))
               | inr differs ↦
@@ -589,44 +708,47 @@ module _ (laws : Laws) (steps : AnyStepGoesWell) (told : (x y : ThreadState) →
                   there_r is differs)
             ]
 
-          given : IsOwed image endpoint a t after
+          given : IsOwed image endpoint badge a t after
           given =
               let is = there-is image r after later (behind.stand r among) in
               record { server = r; listed = among; receives = receives_; owes = by-states-of is.0 is.1 }
 
-        begins : IsOwed image endpoint a t after
+        begins : IsOwed image endpoint badge a t after
         begins = elim (all.others y (Waits.own waits_) (Waits.is waits_)) [
           | inl stopped ↦ absurd (let clash : Inactive ≡ Blocked e = sym stopped ∙ Waits.blocked waits_ in cc)
           | inr block ↦ given block.thread block.listed block.is
         ]
 
       module _ (awaits : (thread_at (step s Step).0 (tcb_of image t)).status ≡ AwaitsReply)
-          (calls_ : asked_there image (step s Step).0 t ≡ Calls endpoint) where
+          (calls_ : CallsThere image (step s Step).0 t endpoint badge) where
         abbrev status_now : Status
         status_now = (thread_at after tcb).status
 
         sent-ends : (e : ℕ) (is_call : Bool) → (is_call ≡ true → asked_now s (tcb_of image t) ≡ Calls e) → SendEnds s (tcb_of image t) e is_call after
-            → IsOwed image endpoint a t after
+            → IsOwed image endpoint badge a t after
         sent-ends e is_call called (sent_passed status pc) = not-answered status_now status awaits
-        sent-ends e is_call called (sent_queued status pc q is nobody) = not-blocked e status_now status awaits
-        sent-ends e is_call called (sent_awaits y rest status pc so first right) =
-            let both : Calls e ≡ Calls endpoint = sym (called so) ∙ sym asks ∙ sym spot.1 ∙ sym (asked-same image t s after pc) ∙ calls_ in
+        sent-ends e is_call called (sent_queued status kept q is nobody) = not-blocked e status_now status awaits
+        sent-ends e is_call called (sent_awaits y rest status kept so first right) =
+            let before_ : CallsThere image s t endpoint badge = calls-same image t s after endpoint badge (stays-pc s after tcb kept) calls_ in
+            let both : Calls e ≡ Calls endpoint = sym (called so) ∙ sym asks ∙ sym spot.1 ∙ before_.asks in
             let same : e ≡ endpoint = cc in
-            begins y rest e first same right
+            let carries : badge_at image t state ≡ badge =
+            sym (ap (badge_noted image t) at.stands.known) ∙ sym (ap (λ (k : ℕ). badge_noted image t (noted image t k)) spot.0) ∙ before_.carries in
+            begins y rest e first same carries (called so) right
         sent-ends e is_call called (sent_stopped status) = absurd (let clash : Inactive ≡ AwaitsReply = sym status ∙ awaits in cc)
 
-        received-ends : (e : ℕ) → ReceiveEnds s (tcb_of image t) e after → IsOwed image endpoint a t after
-        received-ends e (got_one first others status pc head gone right) = not-answered status_now status awaits
+        received-ends : (e : ℕ) → ReceiveEnds s (tcb_of image t) e after → IsOwed image endpoint badge a t after
+        received-ends e (got_one first others status pc head gone right message got) = not-answered status_now status awaits
         received-ends e (stays_there status pc none) = not-blocked e status_now status awaits
 
-        taken-ends : (e : ℕ) → TakeEnds s (tcb_of image t) e after → IsOwed image endpoint a t after
+        taken-ends : (e : ℕ) → TakeEnds s (tcb_of image t) e after → IsOwed image endpoint badge a t after
         taken-ends e (got_word runs_ pc) = not-answered status_now (runs-is status_now runs_) awaits
         taken-ends e (stays_on status pc) = not-blocked e status_now status awaits
 
-        never : may_wait (asked_now s (tcb_of image t)) ≡ false → IsOwed image endpoint a t after
+        never : may_wait (asked_now s (tcb_of image t)) ≡ false → IsOwed image endpoint badge a t after
         never free = not-answered status_now (free-runs free) awaits
 
-        own-owed-by : (x : Asked) → asked_now s (tcb_of image t) ≡ x → IsOwed image endpoint a t after
+        own-owed-by : (x : Asked) → asked_now s (tcb_of image t) ≡ x → IsOwed image endpoint badge a t after
         own-owed-by (Takes e) is =
             taken-ends e (waits_so laws steps told bytes image accepted s labels all stay t listed now makes mine point state answer at e is)
         own-owed-by (Accepts e replies) is =
@@ -644,16 +766,16 @@ module _ (laws : Laws) (steps : AnyStepGoesWell) (told : (x y : ThreadState) →
         own-owed-by Answers is = never (ap may_wait is)
         own-owed-by Asks_nothing is = never (ap may_wait is)
 
-        own-owed : IsOwed image endpoint a t after
+        own-owed : IsOwed image endpoint badge a t after
         own-owed = own-owed-by asked refl
 
       each-owed : (c : Numbered) → Contains (numbered_threads image) c → OwedThen c after
       each-owed c among awaits calls_ = elim (eqb_tells (tcb_of image c) tcb) [
         | inl here_ ↦ (
             let one = one-block c among here_.1 in
-            subst (λ (u : Numbered). IsOwed image endpoint a u after) (sym one)
+            subst (λ (u : Numbered). IsOwed image endpoint badge a u after) (sym one)
             (own-owed (subst (λ (u : Numbered). (thread_at after (tcb_of image u)).status ≡ AwaitsReply) one awaits)
-            (subst (λ (u : Numbered). asked_there image after u ≡ Calls endpoint) one calls_)))
+            (subst (λ (u : Numbered). CallsThere image after u endpoint badge) one calls_)))
         | inr apart ↦ other-owed c among apart.1 awaits calls_
       ]
 
@@ -665,7 +787,7 @@ module _ (laws : Laws) (steps : AnyStepGoesWell) (told : (x y : ThreadState) →
   -- ---- any step
 
   pub step-owed : (c : Numbered) → Contains (numbered_threads image) c → (thread_at (step s Step).0 (tcb_of image c)).status ≡ AwaitsReply
-      → asked_there image (step s Step).0 c ≡ Calls endpoint → IsOwed image endpoint a c (step s Step).0
+      → CallsThere image (step s Step).0 c endpoint badge → IsOwed image endpoint badge a c (step s Step).0
   step-owed c among =
       step-cases image s labels all (OwedThen c after)
       (λ idle. subst (OwedThen c) (sym (ap (λ (x : State × Label). x.0) (idle-is s idle))) (owed c among))

@@ -20,6 +20,7 @@ use Rattle.response.specs.Resting.{IsAcknowledged, IsTended}
 use Rattle.response.specs.Weights.{Weights}
 use Rattle.response.proofs.Laws.{acknowledged-so, all-at, any-found, at-start, known-at, or-then, tended-by}
 use Rattle.std.proofs.lemmas.Bool.{eq-eqb}
+use Rattle.settled_threads.specs.Answering.{badge_at}
 use Rattle.settled_threads.specs.Settled.{AreInputs, AreSettled, AreTended, AsksSettled, OthersOweAtMost, Settling, taken_by}
 use Rattle.settled_threads.specs.Tested.{IsTendedAt, Settlement, are_settled, is_input, is_input_there, is_tended, others_owe, passes_settled}
 use Rattle.settled_threads.specs.Tested.{passes_settled_rested, tended_by_one, tends}
@@ -68,19 +69,19 @@ module _ (image : Image) (priority : ℕ) (settling : Settling)
 
 -- ---- the line of a settled thread
 
-pub takes-input : (image : Image) (settling : Settling) (input rank object : ℕ) (asked : Asked) → taken_by asked ≡ Some object
-    → AsksSettled image settling input rank asked → object ≡ input
-takes-input image settling input rank object (Takes o) is asks = let same : o ≡ object = cc in sym same ∙ asks
-takes-input image settling input rank object (Accepts o replies) is asks = let same : o ≡ object = cc in sym same ∙ asks
-takes-input image settling input rank object (SendsTo o) is asks = absurd (let clash : ◌≡◌ {A = Option ℕ} None (Some object) = is in cc)
-takes-input image settling input rank object (Calls o) is asks = absurd (let clash : ◌≡◌ {A = Option ℕ} None (Some object) = is in cc)
-takes-input image settling input rank object (Polls o) is asks = absurd (let clash : ◌≡◌ {A = Option ℕ} None (Some object) = is in cc)
-takes-input image settling input rank object (Rings o) is asks = absurd (let clash : ◌≡◌ {A = Option ℕ} None (Some object) = is in cc)
-takes-input image settling input rank object (Acknowledges number) is asks = absurd (let clash : ◌≡◌ {A = Option ℕ} None (Some object) = is in cc)
-takes-input image settling input rank object (Looks o) is asks = absurd (let clash : ◌≡◌ {A = Option ℕ} None (Some object) = is in cc)
-takes-input image settling input rank object (Tries o) is asks = absurd (let clash : ◌≡◌ {A = Option ℕ} None (Some object) = is in cc)
-takes-input image settling input rank object Answers is asks = absurd (let clash : ◌≡◌ {A = Option ℕ} None (Some object) = is in cc)
-takes-input image settling input rank object Asks_nothing is asks = absurd (let clash : ◌≡◌ {A = Option ℕ} None (Some object) = is in cc)
+pub takes-input : (image : Image) (settling : Settling) (input rank badge object : ℕ) (asked : Asked) → taken_by asked ≡ Some object
+    → AsksSettled image settling input rank badge asked → object ≡ input
+takes-input image settling input rank badge object (Takes o) is asks = let same : o ≡ object = cc in sym same ∙ asks
+takes-input image settling input rank badge object (Accepts o replies) is asks = let same : o ≡ object = cc in sym same ∙ asks
+takes-input image settling input rank badge object (SendsTo o) is asks = absurd (let clash : ◌≡◌ {A = Option ℕ} None (Some object) = is in cc)
+takes-input image settling input rank badge object (Calls o) is asks = absurd (let clash : ◌≡◌ {A = Option ℕ} None (Some object) = is in cc)
+takes-input image settling input rank badge object (Polls o) is asks = absurd (let clash : ◌≡◌ {A = Option ℕ} None (Some object) = is in cc)
+takes-input image settling input rank badge object (Rings o) is asks = absurd (let clash : ◌≡◌ {A = Option ℕ} None (Some object) = is in cc)
+takes-input image settling input rank badge object (Acknowledges number) is asks = absurd (let clash : ◌≡◌ {A = Option ℕ} None (Some object) = is in cc)
+takes-input image settling input rank badge object (Looks o) is asks = absurd (let clash : ◌≡◌ {A = Option ℕ} None (Some object) = is in cc)
+takes-input image settling input rank badge object (Tries o) is asks = absurd (let clash : ◌≡◌ {A = Option ℕ} None (Some object) = is in cc)
+takes-input image settling input rank badge object Answers is asks = absurd (let clash : ◌≡◌ {A = Option ℕ} None (Some object) = is in cc)
+takes-input image settling input rank badge object Asks_nothing is asks = absurd (let clash : ◌≡◌ {A = Option ℕ} None (Some object) = is in cc)
 
 abbrev pub tended-at : (image : Image) (priority : ℕ) (settling : Settling) → AreSettled image priority settling → (number : ℕ) (a : IsTended image number)
     → settling.input a.thread.number ≡ Some a.queue → IsTendedAt image priority number
@@ -90,7 +91,8 @@ tended-at image priority settling settled number a input =
       tended = a;
       level = own.0;
       one = λ point state object inside known takes.
-          takes-input image settling a.queue (settling.rank a.thread.number) object (asked_at image a.thread.thread point state) takes
+          takes-input image settling a.queue (settling.rank a.thread.number) (badge_at image a.thread state) object
+          (asked_at image a.thread.thread point state) takes
           (own.1 point state inside known);
     }
 

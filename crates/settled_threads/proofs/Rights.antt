@@ -1,4 +1,5 @@
 -- Rights to reply, over a system call of the thread that runs: its own stays, unless it receives from an endpoint or answers; and whom it answers runs.
+-- No thread's registers change but those that a message may write.
 use Rattle.std.proofs.Common.{ℕ, ◌≡◌, ◌≢◌, ◌∙◌, ◌==◌, ◌++◌, inl, inr, Bool, true, false, if◌then◌else◌, Option, Some, None, Result, Ok, Err, List, [], ◌∷◌}
 use Rattle.std.proofs.Common.{refl, sym, ap, subst, arith}
 use Rattle.std.specs.Prelude.{Contains, bit_or, is_some}
@@ -18,6 +19,7 @@ use Rattle.model.specs.declared.system_calls.SendCall.{SendCall}
 use Rattle.model.specs.declared.system_calls.SendCall.TheVariants.{Calling, Sending, Trying}
 use Rattle.model.specs.declared.system_calls.SystemCall.{SystemCall}
 use Rattle.model.specs.declared.system_calls.SystemCall.TheVariants.{Sends, Receives, RepliesAndReceives, Replies, Yields, PutsCharacter}
+use Rattle.model.specs.Acceptance.CallRules.{message_registers}
 use Rattle.model.specs.Capabilities.Rights.{may_grant_reply, may_read, may_write}
 use Rattle.model.specs.Capabilities.Slots.{Slots, capability_at}
 use Rattle.model.specs.Kernel.Messages.{a0, a1, a7, bytes_between, bytes_sent, deliver_sent, deliver_with, deliver_word, delivered, info_word, message_between}
@@ -35,68 +37,93 @@ use Rattle.model.specs.Kernel.Waits.{is_fault}
 use Rattle.model.specs.Machine.Effects.{advanced}
 use Rattle.model.specs.Machine.ProgramMemory.{RegisterFile, read, write}
 use Rattle.headline.specs.calls.Messages.{IsInvoked}
+use Rattle.headline.specs.measure_facts.Terms.{WritesOnly}
 use Rattle.response.specs.Asking.{Accepts, Acknowledges, Answers, Asked, Asks_nothing, Calls, Looks, Polls, Rings, SendsTo, Takes, Tries, asked_by, asked_known}
 use Rattle.response.specs.Asking.{asked_to_receive, asked_to_send, capability_found}
 use Rattle.response.proofs.Laws.{OthersWait, asked_now, block-off, caller-off, passes-off, put-at, put-off, replied-there, same-names, sent-off, thread-of}
 use Rattle.response.proofs.Laws.{wake-off, wake-status}
+use Rattle.settled_threads.proofs.MessageRegisters.{info-aside, message-aside, word-aside}
 
 -- ---- states in which each thread has the right that it had
 
 abbrev pub caller-of : Option Object → Option ℕ
 caller-of o = (thread-of o).caller
 
+-- a thread has the right that it had, and the registers but those that a message may write
+pub record KeepsAside (before after : Option Object) : Type 0 where
+  pub right : caller-of after ≡ caller-of before
+  pub registers : WritesOnly (thread-of before).registers (thread-of after).registers message_registers
+
 abbrev pub KeepsRights : State → State → Type 0
-KeepsRights s after = (x : ℕ) → caller-of (after.objects x) ≡ caller-of (s.objects x)
+KeepsRights s after = (x : ℕ) → KeepsAside (s.objects x) (after.objects x)
+
+pub unmoved : (before after : Option Object) → after ≡ before → KeepsAside before after
+unmoved before after same = subst (KeepsAside before) (sym same) (record { right = refl; registers = λ k less other. refl })
+
+pub then-aside : (a b c : Option Object) → KeepsAside a b → KeepsAside b c → KeepsAside a c
+then-aside a b c first second = record {
+  right = second.right ∙ first.right;
+  registers = λ k less other. second.registers k less other ∙ first.registers k less other;
+}
 
 onward : (a b c : State) → KeepsRights a b → KeepsRights b c → KeepsRights a c
-onward a b c first second x = second x ∙ first x
+onward a b c first second x = then-aside (a.objects x) (b.objects x) (c.objects x) (first x) (second x)
 
-put-keeps : (objects : ℕ → Option Object) (y : ℕ) (new : Object) → caller-of (Some new) ≡ caller-of (objects y) → (x : ℕ)
-    → caller-of (put objects y (Some new) x) ≡ caller-of (objects x)
+put-keeps : (objects : ℕ → Option Object) (y : ℕ) (new : Object) → KeepsAside (objects y) (Some new) → (x : ℕ)
+    → KeepsAside (objects x) (put objects y (Some new) x)
 put-keeps objects y new same x = elim (eqb_tells x y) [
   | inl here ↦
-      ap (λ (k : ℕ). caller-of (put objects y (Some new) k)) here.1 ∙ ap caller-of (put-at objects y (Some new)) ∙ same
-      ∙ ap (λ (k : ℕ). caller-of (objects k)) (sym here.1)
-  | inr apart ↦ ap caller-of (put-off objects y x (Some new) apart.1)
+      subst (λ (k : ℕ). KeepsAside (objects k) (put objects y (Some new) k)) (sym here.1)
+      (subst (KeepsAside (objects y)) (sym (put-at objects y (Some new))) same)
+  | inr apart ↦ unmoved (objects x) (put objects y (Some new) x) (put-off objects y x (Some new) apart.1)
 ]
 
-thread-keeps : (m : State) (y : ℕ) (new : ThreadState) → new.caller ≡ (thread_at m y).caller → KeepsRights m (with_thread m y new)
-thread-keeps m y new same = put-keeps m.objects y (ThreadObject new) same
+thread-keeps : (m : State) (y : ℕ) (new : ThreadState) → new.caller ≡ (thread_at m y).caller
+    → WritesOnly (thread_at m y).registers new.registers message_registers → KeepsRights m (with_thread m y new)
+thread-keeps m y new same only = put-keeps m.objects y (ThreadObject new) (record { right = same; registers = only })
 
 endpoint-keeps : (m : State) (e : ℕ) (q new : EndpointState) → m.objects e ≡ Some (EndpointObject q) → KeepsRights m (with_endpoint m e new)
-endpoint-keeps m e q new is = put-keeps m.objects e (EndpointObject new) (sym (ap caller-of is))
+endpoint-keeps m e q new is =
+    put-keeps m.objects e (EndpointObject new)
+    (subst (λ (o : Option Object). KeepsAside o (Some (EndpointObject new))) (sym is) (record { right = refl; registers = λ k less other. refl }))
 
 bell-keeps : (m : State) (o : ℕ) (n new : NotificationState) → m.objects o ≡ Some (NotificationObject n) → KeepsRights m (with_notification m o new)
-bell-keeps m o n new is = put-keeps m.objects o (NotificationObject new) (sym (ap caller-of is))
+bell-keeps m o n new is =
+    put-keeps m.objects o (NotificationObject new)
+    (subst (λ (x : Option Object). KeepsAside x (Some (NotificationObject new))) (sym is) (record { right = refl; registers = λ k less other. refl }))
 
-registers-keep : (m : State) (y : ℕ) (r : RegisterFile) → KeepsRights m (with_registers m y r)
-registers-keep m y r = thread-keeps m y (record (thread_at m y) { registers = r }) refl
+registers-keep : (m : State) (y : ℕ) (r : RegisterFile) → WritesOnly (thread_at m y).registers r message_registers → KeepsRights m (with_registers m y r)
+registers-keep m y r only = thread-keeps m y (record (thread_at m y) { registers = r }) refl only
 
 passes-keep : (m : State) (y : ℕ) → KeepsRights m (passes m y)
-passes-keep m y = registers-keep m y (advanced (thread_at m y).registers)
+passes-keep m y = registers-keep m y (advanced (thread_at m y).registers) (λ k less other. refl)
 
-passes_with-keep : (m : State) (y : ℕ) (r : RegisterFile) → KeepsRights m (passes_with m y r)
-passes_with-keep m y r = onward m (with_registers m y r) (passes_with m y r) (registers-keep m y r) (passes-keep (with_registers m y r) y)
+passes_with-keep : (m : State) (y : ℕ) (r : RegisterFile) → WritesOnly (thread_at m y).registers r message_registers → KeepsRights m (passes_with m y r)
+passes_with-keep m y r only =
+    onward m (with_registers m y r) (passes_with m y r) (registers-keep m y r only) (passes-keep (with_registers m y r) y)
 
 wake-keeps : (m : State) (y : ℕ) → KeepsRights m (wake m y)
-wake-keeps m y = thread-keeps m y (record (thread_at m y) { status = Runnable; slice = full_slice }) refl
+wake-keeps m y = thread-keeps m y (record (thread_at m y) { status = Runnable; slice = full_slice }) refl (λ k less other. refl)
 
 block-keeps : (m : State) (y : ℕ) (status : Status) → KeepsRights m (block m y status)
-block-keeps m y status = thread-keeps m y (record (thread_at m y) { status = status }) refl
+block-keeps m y status = thread-keeps m y (record (thread_at m y) { status = status }) refl (λ k less other. refl)
 
 yields-keep : (m : State) (y : ℕ) → KeepsRights m (yielded m y)
-yields-keep m y = thread-keeps m y (record (thread_at m y) { slice = full_slice }) refl
+yields-keep m y = thread-keeps m y (record (thread_at m y) { slice = full_slice }) refl (λ k less other. refl)
 
 word-keeps : (m : State) (y word : ℕ) → KeepsRights m (deliver_word m y word)
-word-keeps m y word = passes_with-keep m y (write (thread_at m y).registers a0 word)
+word-keeps m y word =
+    passes_with-keep m y (write (thread_at m y).registers a0 word) (word-aside (thread_at m y).registers word)
 
 sent-keeps : (m : State) (first : Sender) (y : ℕ) → KeepsRights m (deliver_sent m first y)
 sent-keeps m first y =
     let one : State = record m { bytes = bytes_sent m first first.sent y } in
     passes_with-keep one y (delivered (thread_at one y).registers first.badge (message_to m first first.sent y))
+    (message-aside (thread_at one y).registers first.badge (message_to m first first.sent y))
 
 answered-keeps : (m : State) (x : ℕ) (kind : SendCall) (number : ℕ) → KeepsRights m (answered m x kind number)
-answered-keeps m x Calling number = passes_with-keep m x (write (write (registers_of m x) a0 0) a1 (info_word number 0))
+answered-keeps m x Calling number =
+    passes_with-keep m x (write (write (registers_of m x) a0 0) a1 (info_word number 0)) (info-aside (registers_of m x) 0 (info_word number 0))
 answered-keeps m x Sending number = passes-keep m x
 answered-keeps m x Trying number = passes-keep m x
 
@@ -158,15 +185,16 @@ module _ (m : State) (e x : ℕ) (q : EndpointState) (is : m.objects e ≡ Some 
 
   -- a call gives another thread the right
   calls-keep : (badge : ℕ) (grants : Bool) (l : List ℕ) → ((y : ℕ) (rest : List ℕ) → l ≡ y ∷ rest → x ≢ y)
-      → caller-of ((sends m e (sender x ByCall badge grants) l).objects x) ≡ caller-of (m.objects x)
+      → KeepsAside (m.objects x) ((sends m e (sender x ByCall badge grants) l).objects x)
   calls-keep badge grants [] other = queued-keeps (sender x ByCall badge grants) x
   calls-keep badge true (y ∷ rest) other =
       let mine = sender x ByCall badge true in
       let stopped = block (reached mine y rest) x AwaitsReply in
-      ap caller-of (caller-off stopped y x (Some x) (other y rest refl)) ∙ block-keeps (reached mine y rest) x AwaitsReply x ∙ reached-keeps mine y rest x
+      subst (KeepsAside (m.objects x)) (sym (caller-off stopped y x (Some x) (other y rest refl)))
+      (onward m (reached mine y rest) stopped (reached-keeps mine y rest) (block-keeps (reached mine y rest) x AwaitsReply) x)
   calls-keep badge false (y ∷ rest) other =
       let mine = sender x ByCall badge false in
-      block-keeps (reached mine y rest) x Inactive x ∙ reached-keeps mine y rest x
+      onward m (reached mine y rest) (block (reached mine y rest) x Inactive) (reached-keeps mine y rest) (block-keeps (reached mine y rest) x Inactive) x
 
 -- ---- a thread that neither receives nor sends is left as it is
 
@@ -278,7 +306,7 @@ module _ (s : State) (x : ℕ) (own : ThreadState) (there : s.objects x ≡ Some
     (notes : (slot o : ℕ) (r : Rights) (badge : ℕ) → named_slot s x ≡ Ok slot → capability_at s.slots slot ≡ Notification o r badge
     → (n : NotificationState) × (s.objects o ≡ Some (NotificationObject n))) where
   abbrev Keeps : State → Type 0
-  Keeps after = caller-of (after.objects x) ≡ caller-of (s.objects x)
+  Keeps after = KeepsAside (s.objects x) (after.objects x)
 
   abbrev Fine : Done → Type 0
   Fine done = is_fault (Ran address place done.1) ≡ false → Keeps done.0
@@ -311,7 +339,9 @@ module _ (s : State) (x : ℕ) (own : ThreadState) (there : s.objects x ≡ Some
   sent-fine kind slot (Notification o r badge) named is quiet =
       let note = notes slot o r badge named is in
       either-fine (may_write r) (signal_on s x kind o badge) (refused s x kind InvalidCapability)
-      (λ free. answered-keeps (signal s o badge) x kind 0 x ∙ signal-keeps s o badge note.0 note.1 x) (refused-fine kind)
+      (λ free. onward s (signal s o badge) (answered (signal s o badge) x kind 0) (signal-keeps s o badge note.0 note.1)
+      (answered-keeps (signal s o badge) x kind 0) x)
+      (refused-fine kind)
   sent-fine kind slot Empty named is quiet = absurd (quiet tt)
   sent-fine kind slot (Untyped offset bits watermark) named is quiet = absurd (quiet tt)
   sent-fine kind slot (CNode offset radix guard) named is quiet = absurd (quiet tt)
@@ -366,7 +396,7 @@ module _ (s : State) (x : ℕ) (own : ThreadState) (there : s.objects x ≡ Some
       subst (λ (r : Result ℕ LookupFailure). Fine (receive_named (reply s x) x Receiving r)) (sym names.named)
       (received-by true Receiving (reply s x) (λ clash. absurd cc) names.slots (named_slot s x) refl keeps)
   called-fine Replies keeps quiet = let clash : false ≡ true = keeps in absurd cc
-  called-fine Yields keeps quiet = λ free. yields-keep (passes s x) x x ∙ passes-keep s x x
+  called-fine Yields keeps quiet = λ free. onward s (passes s x) (yielded (passes s x) x) (passes-keep s x) (yields-keep (passes s x) x) x
   called-fine PutsCharacter keeps quiet = λ free. passes-keep s x x
 
   numbered-fine : (number : ℕ) (call : Option SystemCall) → keeps_right (asked_known call (capability_found s.slots (named_slot s x))) ≡ true
@@ -379,7 +409,7 @@ module _ (s : State) (x : ℕ) (own : ThreadState) (there : s.objects x ≡ Some
   pub right-kept : keeps_right (asked_now s x) ≡ true
       → ((kind : SendCall) (slot : ℕ) → call_of (read (registers_of s x) a7) ≡ Some (Sends kind) → named_slot s x ≡ Ok slot
       → IsInvoked (capability_at s.slots slot) → ⊥) → is_fault (Ran address place (system_call s x).1) ≡ false
-      → (thread_at (system_call s x).0 x).caller ≡ (thread_at s x).caller
+      → KeepsAside (s.objects x) ((system_call s x).0.objects x)
   unfolding system_call
   right-kept keeps quiet = numbered-fine (read (registers_of s x) a7) (call_of (read (registers_of s x) a7)) keeps quiet
 
@@ -512,5 +542,5 @@ completed-keeps m x kind = elim (is_some (as_thread (m.objects x))) as (λ b. Ke
     then (if is_runnable (thread_at m x).status then answered m x kind 0 else passes m x) else m)) [
       | true ↦ elim (is_runnable (thread_at m x).status) as (λ b. KeepsRights m (if b then answered m x kind 0 else passes m x))
           [ true ↦ answered-keeps m x kind 0 | false ↦ passes-keep m x ]
-      | false ↦ λ y. refl
+      | false ↦ λ y. unmoved (m.objects y) (m.objects y) refl
     ]

@@ -9,27 +9,26 @@ use Rattle.model.specs.Images.Described.{Numbered, described, numbered_threads}
 use Rattle.model.specs.Images.Image.{Image}
 use Rattle.model.specs.Kernel.State.{AwaitsReply, thread_at}
 use Rattle.model.specs.Kernel.Steps.{state_after, step}
-use Rattle.response.specs.Asking.{Calls}
 use Rattle.response.specs.DealtWith.{HoldsWithin, IsDealtWith, Rests}
 use Rattle.response.specs.Laws.{HaveRates, left_after}
 use Rattle.response.specs.Left.{line_price}
 use Rattle.response.specs.Levels.{KeepsLevel, KeepsLevelOnceRested, is_level_label}
-use Rattle.response.specs.Owed.{IsLeftAtRest, OweBelow, PayAnswers, StepsFitWith, asked_there, at_rest_with, owed_of_thread}
+use Rattle.response.specs.Owed.{IsLeftAtRest, OweBelow, PayAnswers, StepsFitWith, at_rest_with, owed_of_thread}
 use Rattle.response.specs.Rates.{Keeps, Rate, costs_within, steps_in}
 use Rattle.response.specs.Responding.{DealsOnceRested, DealsWithin, OpenLine, RespondsOnceRested, RespondsWithin, Response, is_acknowledged, is_open_by}
 use Rattle.response.specs.Resting.{IsTended}
 use Rattle.response.specs.Weights.{Pays, Weights}
-use Rattle.settled_threads.specs.Answering.{IsAnswered, IsOwed}
+use Rattle.settled_threads.specs.Answering.{CallsThere, IsAnswered, IsOwed}
 use Rattle.settled_threads.specs.Settled.{AreInputs, AreSettled, AreTended, OthersOweAtMost, Settling, WaitsAtInput}
 use Rattle.settled_threads.specs.Tested.{RestsAtInput, Settlement, TendsOnceRested, TendsWithin, passes_settled, passes_settled_rested}
 
--- whoever waits for an answer of an endpoint that answers is owed it
+-- whoever called with a badge that the endpoint answers, and waits for the answer, is owed it
 abbrev pub CallersAreOwed : Type 0
 CallersAreOwed =
-    (bytes : List ℕ) (image : Image) (events : List Event) (t : Numbered) (endpoint : ℕ) → IsAccepted bytes image → All (KeepsDevices image) events
-    → Contains (numbered_threads image) t → (a : IsAnswered image endpoint)
+    (bytes : List ℕ) (image : Image) (events : List Event) (t : Numbered) (endpoint badge : ℕ) → IsAccepted bytes image → All (KeepsDevices image) events
+    → Contains (numbered_threads image) t → (a : IsAnswered image endpoint badge)
     → (thread_at (state_after (described image) events) (tcb_of image t)).status ≡ AwaitsReply
-    → asked_there image (state_after (described image) events) t ≡ Calls endpoint → IsOwed image endpoint a t (state_after (described image) events)
+    → CallsThere image (state_after (described image) events) t endpoint badge → IsOwed image endpoint badge a t (state_after (described image) events)
 
 -- where nothing of the level is ready, each settled thread of it waits at its input, and not in a call or a send
 abbrev pub SettledThreadsRest : Type 0

@@ -12,7 +12,7 @@ use Rattle.response.specs.Levels.{is_of_level}
 use Rattle.response.specs.Owed.{asked_there, going_on, owes_at_most}
 use Rattle.response.specs.Resting.{IsTended}
 use Rattle.response.specs.Weights.{Weights}
-use Rattle.settled_threads.specs.Answering.{IsAnswered, ReceivesAt}
+use Rattle.settled_threads.specs.Answering.{IsAnswered, ReceivesAt, badge_at}
 
 -- of threads by their numbers: the input of each that is settled, and a rank, which says who comes first
 pub record Settling : Type 0 where
@@ -29,25 +29,25 @@ pub record ComesBefore (image : Image) (settling : Settling) (object rank : ℕ)
 abbrev pub IsTaken : Image → Settling → ℕ → ℕ → Type 0
 IsTaken image settling endpoint rank = (t : Numbered) × ComesBefore image settling endpoint rank t
 
--- whoever receives from the endpoint is settled, comes before the rank, and answers
-pub record IsServed (image : Image) (settling : Settling) (endpoint rank : ℕ) : Type 0 where
+-- whoever receives from the endpoint is settled, comes before the rank, and answers this badge
+pub record IsServed (image : Image) (settling : Settling) (endpoint rank badge : ℕ) : Type 0 where
   pub taken : IsTaken image settling endpoint rank
-  pub answered : IsAnswered image endpoint
+  pub answered : IsAnswered image endpoint badge
   pub each : (t : Numbered) → Contains (numbered_threads image) t → ReceivesAt image t endpoint → ComesBefore image settling endpoint rank t
 
--- what a settled thread may ask
-abbrev pub AsksSettled : Image → Settling → ℕ → ℕ → Asked → Type 0
-AsksSettled image settling object rank (Takes o) = o ≡ object
-AsksSettled image settling object rank (Accepts o replies) = o ≡ object
-AsksSettled image settling object rank (SendsTo o) = IsTaken image settling o rank
-AsksSettled image settling object rank (Calls o) = IsServed image settling o rank
-AsksSettled image settling object rank (Polls o) = ⊤
-AsksSettled image settling object rank (Rings o) = ⊤
-AsksSettled image settling object rank (Acknowledges irq_line) = ⊤
-AsksSettled image settling object rank (Looks o) = ⊤
-AsksSettled image settling object rank (Tries o) = ⊤
-AsksSettled image settling object rank Answers = ⊤
-AsksSettled image settling object rank Asks_nothing = ⊤
+-- what a settled thread may ask, with this badge
+abbrev pub AsksSettled : Image → Settling → ℕ → ℕ → ℕ → Asked → Type 0
+AsksSettled image settling object rank badge (Takes o) = o ≡ object
+AsksSettled image settling object rank badge (Accepts o replies) = o ≡ object
+AsksSettled image settling object rank badge (SendsTo o) = IsTaken image settling o rank
+AsksSettled image settling object rank badge (Calls o) = IsServed image settling o rank badge
+AsksSettled image settling object rank badge (Polls o) = ⊤
+AsksSettled image settling object rank badge (Rings o) = ⊤
+AsksSettled image settling object rank badge (Acknowledges irq_line) = ⊤
+AsksSettled image settling object rank badge (Looks o) = ⊤
+AsksSettled image settling object rank badge (Tries o) = ⊤
+AsksSettled image settling object rank badge Answers = ⊤
+AsksSettled image settling object rank badge Asks_nothing = ⊤
 
 -- the threads that have an input are settled at the level
 abbrev pub AreSettled : Image → ℕ → Settling → Type 0
@@ -55,7 +55,7 @@ AreSettled image priority settling =
     (t : Numbered) (object : ℕ) → Contains (numbered_threads image) t → settling.input t.number ≡ Some object
     → (is_of_level priority t ≡ true)
     × ((point : ℕ) (state : PointState) → point < t.thread.header.words → noted image t point ≡ Known state
-    → AsksSettled image settling object (settling.rank t.number) (asked_at image t.thread point state))
+    → AsksSettled image settling object (settling.rank t.number) (badge_at image t state) (asked_at image t.thread point state))
 
 -- ---- at rest
 

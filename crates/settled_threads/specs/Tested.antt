@@ -4,6 +4,7 @@ use Rattle.std.specs.Prelude.{All, Contains, List, [], ◌∷◌, Option, Some, 
 use Rattle.std.specs.List.{list_all, list_any}
 use Rattle.model.specs.declared.events.Event.{Event}
 use Rattle.model.specs.declared.events.Event.TheVariants.{Step}
+use Rattle.model.specs.declared.ranges.Range.{Range}
 use Rattle.model.specs.Acceptance.Accepted.{IsAccepted}
 use Rattle.model.specs.Acceptance.Devices.{KeepsDevices}
 use Rattle.model.specs.Acceptance.NotedStates.{PointState}
@@ -22,23 +23,23 @@ use Rattle.response.specs.Rates.{Keeps, Rate, costs_within, steps_in}
 use Rattle.response.specs.Responding.{OpenLine, Response, are_priced, asks_each, at_each, have_rates, is_taken_by, leaves, over_edges, pay_for_level}
 use Rattle.response.specs.Resting.{IsTended, marks_for}
 use Rattle.response.specs.Weights.{Weights}
-use Rattle.settled_threads.specs.Answering.{owing_for}
+use Rattle.settled_threads.specs.Answering.{badge_at, owing_over}
 use Rattle.settled_threads.specs.Settled.{Settling, WaitsAtInput, taken_by}
 
 -- ---- what is said
 
--- An endpoint to which settled threads send whose rank is this or above: a settled thread receives there that comes before. One that answers may be
--- called too: nobody polls it, and each thread that receives there is settled, comes before, and answers.
+-- An endpoint to which settled threads send whose rank is this or above: a settled thread receives there that comes before. One that answers a badge may
+-- be called with it too: nobody polls it, and each thread that receives there is settled, comes before, and answers.
 pub record Door : Type 0 where
   pub endpoint : ℕ
   pub rank : ℕ
-  pub answers : Bool
+  pub answers : Option ℕ
 
 pub record Settlement : Type 0 where
   pub settling : Settling
   pub doors : List Door
-  -- of a thread by its number: the points at which an answer may be owed
-  pub owing : ℕ → ℕ → Bool
+  -- of a badge, and a thread by its number: what is known of the points at which an answer may be owed
+  pub owing : ℕ → ℕ → ℕ → Option (List Range)
 
 -- ---- what settled threads ask
 
@@ -57,8 +58,9 @@ leads_in endpoint rank d = (d.endpoint == endpoint) && nat_le d.rank rank
 abbrev pub may_send : List Door → ℕ → ℕ → Bool
 may_send doors rank endpoint = list_any (leads_in endpoint rank) doors
 
-abbrev pub may_call : List Door → ℕ → ℕ → Bool
-may_call doors rank endpoint = list_any (λ d. d.answers && leads_in endpoint rank d) doors
+-- with this badge
+abbrev pub may_call : List Door → ℕ → ℕ → ℕ → Bool
+may_call doors rank badge endpoint = list_any (λ d. is_input badge d.answers && leads_in endpoint rank d) doors
 
 -- takes from this object alone, and sends to and calls what it may
 abbrev pub asks_settled : (ℕ → Bool) → (ℕ → Bool) → ℕ → Asked → Bool
@@ -78,7 +80,9 @@ abbrev pub settled_with : Image → ℕ → Settlement → Numbered → Option �
 settled_with image priority s t None = true
 settled_with image priority s t (Some object) =
     is_of_level priority t
-    && asks_each image t (asks_settled (may_send s.doors (s.settling.rank t.number)) (may_call s.doors (s.settling.rank t.number)) object)
+    && at_each image t (λ point state.
+    asks_settled (may_send s.doors (s.settling.rank t.number)) (may_call s.doors (s.settling.rank t.number) (badge_at image t state)) object
+    (asked_at image t.thread point state))
 
 abbrev pub is_settled : Image → ℕ → Settlement → Numbered → Bool
 is_settled image priority s t = settled_with image priority s t (s.settling.input t.number)
@@ -90,10 +94,10 @@ has_taker image settling d = list_any (comes_before settling d.endpoint d.rank) 
 
 -- whoever receives there has it as its input, and comes before
 abbrev pub receives_before : Option ℕ → ℕ → ℕ → Door → Bool
-receives_before input rank endpoint d = not (d.answers && (d.endpoint == endpoint)) || (is_input endpoint input && nat_lt rank d.rank)
+receives_before input rank endpoint d = not (is_some d.answers && (d.endpoint == endpoint)) || (is_input endpoint input && nat_lt rank d.rank)
 
 abbrev pub is_no_door : ℕ → Door → Bool
-is_no_door endpoint d = not (d.answers && (d.endpoint == endpoint))
+is_no_door endpoint d = not (is_some d.answers && (d.endpoint == endpoint))
 
 -- receives from doors that answer as they ask, by tests of endpoints, and polls none
 abbrev pub receives_so : (ℕ → Bool) → (ℕ → Bool) → Asked → Bool
@@ -115,15 +119,18 @@ are_before doors input rank endpoint = list_all (receives_before input rank endp
 abbrev pub are_no_door : List Door → ℕ → Bool
 are_no_door doors endpoint = list_all (is_no_door endpoint) doors
 
--- the input is a door that answers
-abbrev pub must_answer : List Door → Option ℕ → Bool
-must_answer doors input = list_any (λ d. d.answers && is_input d.endpoint input) doors
+-- where the input is a door that answers a badge, each message with it is answered
+abbrev pub answers_badge : Image → (ℕ → ℕ → ℕ → Option (List Range)) → Numbered → Option ℕ → Bool
+answers_badge image owing t (Some badge) = over_edges image t (owing_over t.thread badge (owing badge t.number))
+answers_badge image owing t None = true
+
+abbrev pub answers_at : Image → Settlement → Numbered → Door → Bool
+answers_at image s t d = not (is_input d.endpoint (s.settling.input t.number)) || answers_badge image s.owing t d.answers
 
 abbrev pub keeps_doors : Image → Settlement → Numbered → Bool
 keeps_doors image s t =
     asks_each image t (receives_so (are_before s.doors (s.settling.input t.number) (s.settling.rank t.number)) (are_no_door s.doors))
-    && (not (must_answer s.doors (s.settling.input t.number))
-    || over_edges image t (λ asked here next. owing_for (s.owing t.number here) (s.owing t.number next) asked))
+    && list_all (answers_at image s t) s.doors
 
 -- all that makes threads settled
 abbrev pub are_settled : Image → ℕ → Settlement → Bool

@@ -18,12 +18,15 @@ use headline::kept::threads_have_their_own_blocks;
 use headline::measure_facts::measures_of_points_name_registers;
 use headline::parts::threads_are_told_apart;
 use headline::starts::threads_are_as_listed;
+use headline::steps::{
+    an_instruction_takes_an_edge, decoded_fields_lie_in_their_ranges, mapped_accesses_do_not_fault,
+};
 use response::{
     acknowledged_lines_rest, bindings_stay, laws_on_invocations, levels_come_to_rest,
     levels_rest_owing, threads_wait_where_they_asked, waiters_take,
 };
 
-/// Whoever waits for an answer of an endpoint that answers is owed it.
+/// Whoever called with a badge that the endpoint answers, and waits for the answer, is owed it.
 pub fn callers_are_owed()
     ensures { CallersAreOwed }
 {
@@ -37,6 +40,9 @@ pub fn callers_are_owed()
     threads_are_as_listed();
     measures_of_points_name_registers();
     threads_wait_where_they_asked();
+    an_instruction_takes_an_edge();
+    mapped_accesses_do_not_fault();
+    decoded_fields_lie_in_their_ranges();
 }
 
 /// Where nothing of a level is ready, each settled thread of it waits at its input, and not in a call or a send.

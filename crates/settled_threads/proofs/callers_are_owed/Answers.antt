@@ -7,8 +7,9 @@ use Rattle.settled_threads.proofs.OwedEvents.{owed-after}
 use Rattle.settled_threads.proofs.callers_are_owed.Goals as goal
 
 pub returns : goal.returns
-returns c = λ bytes image events t endpoint accepted devices listed a.
-    owed-after c.laws_on_invocations.ensures c.steps_go_well.ensures c.threads_are_told_apart.ensures bytes image accepted endpoint a
+returns c = λ bytes image events t endpoint badge accepted devices listed a.
+    owed-after c.an_instruction_takes_an_edge.ensures c.mapped_accesses_do_not_fault.ensures c.decoded_fields_lie_in_their_ranges.ensures
+    c.laws_on_invocations.ensures c.steps_go_well.ensures c.threads_are_told_apart.ensures bytes image accepted endpoint badge a
     (λ u among.
     given bytes image u (λ k point state at known. c.measures_of_points_name_registers.ensures image k u point state accepted.spelled.fits at known) accepted
     among)

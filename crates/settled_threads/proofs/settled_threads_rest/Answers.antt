@@ -9,4 +9,5 @@ returns c = λ bytes image priority settling events t object accepted devices se
     waits-at-input c.laws_on_invocations.ensures.below bytes image (state_after (described image) events) (trace (described image) events) accepted
     (c.events_go_well.ensures bytes image events accepted devices).stand
     (λ u among. c.threads_wait_where_they_asked.ensures bytes image events u accepted devices among) priority settling settled rests
-    (λ u endpoint among a awaits calls. c.callers_are_owed.ensures bytes image events u endpoint accepted devices among a awaits calls) t object listed input
+    (λ u endpoint badge among a awaits calls.
+    c.callers_are_owed.ensures bytes image events u endpoint badge accepted devices among a awaits calls) t object listed input

@@ -1,0 +1,4 @@
+mod Points
+mod Shown
+mod Ways
+mod Within

@@ -1,0 +1,1 @@
+-- By what is seen of the thread.

@@ -1,0 +1,4 @@
+pub mod Effects
+pub mod Known
+pub mod Seen
+pub mod Answers
