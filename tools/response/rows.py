@@ -34,9 +34,18 @@ ROWS = [
     ("deaf", ["1 1 200"], 100, 75, 12),
     ("self", [], 100, "no bound", None),
     ("many", ["1 1 200"], 110, "no bound", None),
+    # Of samples/gallery: its office calls with a badge that its filter answers, which takes sends with another too.
+    ("gateway", ["1 1 1000", "2 1 1000"], 90, 94, None),
 ]
+GALLERY = os.path.join(HERE, "..", "..", "samples", "gallery")
 LEVEL = re.compile(r"priority (\d+) and above: (?:at most (\d+) instructions on end|no bound)")
 LATER = re.compile(r"rests again within (\d+) instructions|once rested: at most (\d+) instructions")
+
+
+def text_of(name):
+    """The text of a system: of a row, or of the gallery."""
+    own = f"{HERE}/rows/{name}.txt"
+    return own if os.path.exists(own) else f"{GALLERY}/{name}.txt"
 
 
 def levels_of(said):
@@ -56,7 +65,7 @@ def run_of(programs, folder, name, priority):
     """The longest run of a level over its list of events."""
     tool, microsys = programs
     image, events = os.path.join(folder, "it.img"), f"{HERE}/rows/{name}_{priority}.events"
-    subprocess.run([tool, "make", f"{HERE}/rows/{name}.txt", image], stdout=subprocess.DEVNULL, check=True)
+    subprocess.run([tool, "make", text_of(name), image], stdout=subprocess.DEVNULL, check=True)
     ran = subprocess.run([microsys, "run", image, events], stdout=subprocess.PIPE, text=True, check=True)
     with open(image, "rb") as file:
         read = Parts(file.read()).image
@@ -68,7 +77,7 @@ def checked(programs, folder, row):
     """What is wrong with a row, or nothing."""
     name, rates, priority, wanted, reached = row
     words = [word for rate in rates for word in rate.split()]
-    said = subprocess.run([programs[0], "response", f"{HERE}/rows/{name}.txt", *words], stdout=subprocess.PIPE, text=True, check=True).stdout
+    said = subprocess.run([programs[0], "response", text_of(name), *words], stdout=subprocess.PIPE, text=True, check=True).stdout
     steps, later = levels_of(said)[priority]
     if wanted == "no bound":
         return "" if steps is None else f"at most {steps} are said, and there is no bound"

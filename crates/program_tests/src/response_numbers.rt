@@ -233,7 +233,7 @@ fn settled_and_tended(
     match bound_of(alloc, text, priority, lines, 1000)? {
         Some(bound) => {
             let mut settled = 0usize;
-            for input in &bound.settled.inputs {
+            for input in &bound.inputs {
                 settled = settled.saturating_add(usize::from(input.is_some()));
             }
             Ok((settled, bound.tended.len()))

@@ -3,14 +3,14 @@ use Rattle.std.specs.Prelude.{ℕ, ◌≤◌, ◌&&◌, All, Bool, List, nat_le,
 use Rattle.response.specs.Rates.{Rate}
 use Rattle.settled_threads.specs.Tested.{TendsOnceRested}
 use Rattle.responses.specs.Bounds.{IsRow}
-use Rattle.responses.specs.Checks.{is_open_among}
+use Rattle.responses.specs.Numbers.{is_among}
 use Rattle.responses.specs.declared.bounds.Bound.{Bound}
 use Rattle.responses.specs.declared.rows.Row.{Row}
 use Rattle.response_lines.specs.declared.keeping.KeptWithin.{KeptWithin}
 
 -- a level with this bound deals with the line, of those that there are, within so many steps
 abbrev pub is_soon : Bound → ℕ → ℕ → Bool
-is_soon b number most = nat_lt number 64 && nat_le b.later most && is_open_among b.tended.items number
+is_soon b number most = nat_lt number 64 && nat_le b.later most && is_among b.tended.items number
 
 -- Once the threads of the priority and above have rested, the line is dealt with within so many steps, and these are no more than are asked.
 pub record IsKept (bytes : List ℕ) (rates : List Rate) (k : KeptWithin) : Type 0 where

@@ -2,8 +2,8 @@
 
 ghost use Rattle.std.specs.Prelude.{◌≡◌, All, IfOk, IfSome, map};
 ghost use Rattle.response_lines.specs.AskedLines.{IsKept, IsKeptBy, IsKeptByAll, is_soon};
-ghost use Rattle.responses.specs.Checks.{is_open_among};
 ghost use Rattle.responses.specs.Found.{rate_of};
+ghost use Rattle.responses.specs.Numbers.{is_among};
 
 use crate::asked::{LINES, asked_in};
 use crate::faults::NotTold;
@@ -36,9 +36,9 @@ pub struct Kept {
 
 /// Whether a line is one that is dealt with.
 fn deals_with(bound: &Bound, line: u32) -> bool
-    ensures { result ≡ is_open_among bound.now.tended.items line }
+    ensures { result ≡ is_among bound.now.tended.items line }
 {
-    bound.tended.iter().any(|open| open.line == line)
+    bound.tended.iter().any(|tended| *tended == line)
 }
 
 /// Whether a level with this bound deals with a line within so many instructions.

@@ -1,7 +1,10 @@
 mod Lists
 mod Totals
+mod Rising
+mod Drawing
+mod OutlinedThreads
 mod Points
-mod Threads
+mod OfThreads
 mod Bindings
 mod Priced
 mod Paid

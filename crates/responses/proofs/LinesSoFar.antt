@@ -7,8 +7,11 @@ use Rattle.std.proofs.lemmas.List.{length-append}
 use Rattle.std.proofs.lemmas.Option.{none-some, same_Some}
 use Rattle.model.specs.Images.Image.{Image}
 use Rattle.model.specs.declared.entries.InterruptEntry.{InterruptEntry}
+use Rattle.responses.specs.Keepers.{AreKeepers, is_kept}
 use Rattle.responses.specs.Lines.{AreSoFar, bell_for}
+use Rattle.responses.specs.declared.keepers.Keeper.{Keeper}
 use Rattle.responses.specs.declared.lines.Bell.{Bell}
+use Rattle.responses.specs.declared.outlines.Outline.{Outline}
 
 got-more : {A : Type 0} (xs : List A) (x : A) (n : ℕ) (v : A) → slice_get (xs ++ x ∷ []) n ≡ Some v → (slice_get xs n ≡ Some v) ⊎ ((n ≡ length xs) × (x ≡ v))
 got-more [] x zero v is = inr (refl, same_Some x v is)
@@ -66,3 +69,21 @@ line-later image line n i at other =
       | true ↦ λ is. absurd (other (eqb-true i.line line is))
       | false ↦ λ is. refl
     ] refl)
+
+-- ---- who keeps lines, and what threads owe
+
+pub keepers-none : (programs : List Outline) (bells : List (Option Bell)) (keepers : List (Option Keeper)) → keepers ≡ [] → AreKeepers programs bells keepers
+keepers-none programs bells keepers none line keeper at = absurd (none-some keeper (ap (λ (l : List (Option Keeper)). slice_get l line) (sym none) ∙ at))
+
+pub keepers-next : (programs : List Outline) (bells : List (Option Bell)) (line : ℕ) (keepers new : List (Option Keeper)) (keeper : Option Keeper)
+    → length keepers ≡ line → AreKeepers programs bells keepers → is_kept programs bells line keeper ≡ true → new ≡ keepers ++ keeper ∷ []
+    → (length new ≡ line + 1) × AreKeepers programs bells new
+keepers-next programs bells line keepers new keeper long are is grown = (
+  ap length grown ∙ length-append keepers (keeper ∷ []) ∙ ap (λ n. n + 1) long,
+  λ other found at. elim (got-more keepers keeper other found (ap (λ (l : List (Option Keeper)). slice_get l other) (sym grown) ∙ at)) [
+    | inl before ↦ are other found before
+    | inr here ↦
+        subst (λ (k : Option Keeper). is_kept programs bells other k ≡ true) here.1
+        (subst (λ n. is_kept programs bells n keeper ≡ true) (sym (here.0 ∙ long)) is)
+  ],
+)

@@ -21,13 +21,16 @@ use Rattle.response.specs.Responding.{are_priced, have_rates}
 use Rattle.response.specs.Weights.{price_of}
 use Rattle.responses.proofs.Bindings.{binding-is}
 use Rattle.responses.proofs.Lists.{all-below, got}
+use Rattle.responses.proofs.Rising.{each-priced}
 use Rattle.responses.proofs.Totals.{below-at, range-same, total-least, total-map, total-where}
-use Rattle.responses.specs.Checks.{bell_price, is_priced, is_rated, price_of_line}
-use Rattle.responses.specs.Found.{listed_price, price_in, rate_of, weights_of}
+use Rattle.responses.specs.Checks.{bell_price, is_rated, price_of_line}
+use Rattle.responses.specs.Found.{listed_price, price_in, rate_of, weights_at, weights_of}
 use Rattle.responses.specs.Lines.{AreBells, bell_for}
 use Rattle.responses.specs.declared.bounds.Rate.{Rate}
 use Rattle.responses.specs.declared.lines.Bell.{Bell}
-use Rattle.responses.specs.declared.weights.Price.{Price}
+use Rattle.responses.specs.Prices.{Rise}
+use Rattle.responses.specs.declared.outlines.Outline.{Outline}
+use Rattle.responses.specs.declared.price.Price.{Price}
 use Rattle.responses.specs.declared.weights.Weights.{Weights}
 
 -- ---- prices
@@ -36,8 +39,8 @@ pub objects-same : (ps : List Price) → map (λ q. q.object) (map listed_price 
 objects-same [] = refl
 objects-same (p ∷ ps) = ap (λ (l : List ℕ). p.object ∷ l) (objects-same ps)
 
-pub price-same : (w : Weights) (object : ℕ) → price_of (weights_of w) object ≡ price_in w.prices.items object
-price-same w object = in-list w.prices.items
+pub price-same : (w : Weights) (object : ℕ) → price_of (weights_of w) object ≡ price_in w.prices object
+price-same w object = in-list w.prices
   where
     in-list : (ps : List Price) → option_map_or (λ p. p.price) (find (λ p. p.object == object) (map listed_price ps)) 0 ≡ price_in ps object
     in-list [] = refl
@@ -49,15 +52,15 @@ price-same w object = in-list w.prices.items
           | false ↦ in-list ps
         ]
 
-pub priced-so : (w : Weights) → list_all (is_priced w.prices.items) w.prices.items ≡ true → are_priced (weights_of w) ≡ true
-priced-so w all =
-    let ps = w.prices.items in
+pub priced-so : (programs : List Outline) (w : Weights) → Rise w.prices → are_priced (weights_at programs w) ≡ true
+priced-so programs w rise =
+    let ps = w.prices in
     list_all-map (λ p. (times_in (map (λ q. q.object) (map listed_price ps)) p.object == 1) && (price_of (weights_of w) p.object == p.price)) listed_price ps
-    ∙ (λ i. list_all (λ (p : Price). (times_in (objects-same ps i) p.object == 1) && (price-same w p.object i == p.price)) ps) ∙ all
+    ∙ (λ i. list_all (λ (p : Price). (times_in (objects-same ps i) p.object == 1) && (price-same w p.object i == p.price)) ps) ∙ each-priced ps rise
 
 -- ---- rates
 
-at-most : (m n : ℕ) → m ≤ n → nat_le m n ≡ true
+pub at-most : (m n : ℕ) → m ≤ n → nat_le m n ≡ true
 at-most m n less = grind (arith, nat_tests)
 
 covered : (cost : ℕ → ℕ) (rates : List Rate) (k : ℕ) → list_any (λ r. r.line == k) rates ≡ true → cost k ≤ cost_of (map rate_of rates) cost k
@@ -90,36 +93,36 @@ module _ (image : Image) (fits : whole_image.fits image ≡ true) (well : IsWell
       by-found None b is = ap (option_map signal_by) (sym is)
       by-found (Some i) b is = ap (option_map signal_by) (sym is)
 
-  pub line-price : (w : Weights) (line : ℕ) → line < 64 → line_price (weights_of w) (described image) line ≡ price_of_line w.prices.items bells line
+  pub line-price : (w : Weights) (line : ℕ) → line < 64 → line_price (weights_of w) (described image) line ≡ price_of_line w.prices bells line
   line-price w line less =
       let long = are.long in
       let found = got bells line (omega (arith, less, long)) in
       ap (λ (b : Option Signal). option_map_or (λ bound. price_of (weights_of w) bound.notification) b 0) (bound-is line found.0 found.1)
-      ∙ by-bell found.0 ∙ ap (λ (b : Option (Option Bell)). bell_price w.prices.items (option_map_or (λ (o : Option Bell). o) b None)) (sym found.1)
+      ∙ by-bell found.0 ∙ ap (λ (b : Option (Option Bell)). bell_price w.prices (option_map_or (λ (o : Option Bell). o) b None)) (sym found.1)
     where
       by-bell : (b : Option Bell) → option_map_or (λ bound. price_of (weights_of w) bound.notification) (option_map signal_by b) 0
-          ≡ bell_price w.prices.items b
+          ≡ bell_price w.prices b
       by-bell None = refl
       by-bell (Some bell) = price-same w bell.notification
 
   -- each line that costs something has a rate
-  pub rated-so : (w : Weights) (rates : List Rate) → list_all (is_rated w.prices.items bells rates) (range_with_len 0 64) ≡ true
+  pub rated-so : (w : Weights) (rates : List Rate) → list_all (is_rated w.prices bells rates) (range_with_len 0 64) ≡ true
       → have_rates image (weights_of w) (map rate_of rates) ≡ true
   unfolding irq_lines
   rated-so w rates all =
       all-below (λ number. nat_le (cost number) (cost_of (map rate_of rates) cost number)) 64
-      (λ k less. one k less (below-at (is_rated w.prices.items bells rates) 64 k all less))
+      (λ k less. one k less (below-at (is_rated w.prices bells rates) 64 k all less))
     where
       cost : ℕ → ℕ
       cost = line_price (weights_of w) (described image)
 
-      one : (k : ℕ) → k < 64 → is_rated w.prices.items bells rates k ≡ true → nat_le (cost k) (cost_of (map rate_of rates) cost k) ≡ true
+      one : (k : ℕ) → k < 64 → is_rated w.prices bells rates k ≡ true → nat_le (cost k) (cost_of (map rate_of rates) cost k) ≡ true
       one k less is =
-          elim (price_of_line w.prices.items bells k == 0) as (λ b. (price_of_line w.prices.items bells k == 0) ≡ b
+          elim (price_of_line w.prices bells k == 0) as (λ b. (price_of_line w.prices bells k == 0) ≡ b
           → (b || list_any (λ r. r.line == k) rates) ≡ true
           → nat_le (cost k) (cost_of (map rate_of rates) cost k) ≡ true) [
             | true ↦ λ none _.
-                let nothing : cost k ≡ 0 = line-price w k less ∙ eqb-true (price_of_line w.prices.items bells k) 0 none in
+                let nothing : cost k ≡ 0 = line-price w k less ∙ eqb-true (price_of_line w.prices bells k) 0 none in
                 at-most (cost k) (cost_of (map rate_of rates) cost k) (omega (arith, nothing))
             | false ↦ λ _ some. at-most (cost k) (cost_of (map rate_of rates) cost k) (covered cost rates k some)
           ] refl is
@@ -127,11 +130,11 @@ module _ (image : Image) (fits : whole_image.fits image ≡ true) (well : IsWell
   -- what comes within so many steps
   pub costs-same : (w : Weights) (rates : List Rate) (steps : ℕ) → list_all (λ r. nat_lt r.line 64) rates ≡ true
       → costs_within (map rate_of rates) (line_price (weights_of w) (described image)) steps
-      ≡ total (λ r. (r.burst + steps / r.period) * price_of_line w.prices.items bells r.line) rates
+      ≡ total (λ r. (r.burst + steps / r.period) * price_of_line w.prices bells r.line) rates
   costs-same w rates steps all =
       total-map (λ r. (r.burst + steps / r.period) * line_price (weights_of w) (described image) r.line) rate_of rates
       ∙ total-where (λ r. nat_lt r.line 64) (λ r. (r.burst + steps / r.period) * line_price (weights_of w) (described image) r.line)
-      (λ r. (r.burst + steps / r.period) * price_of_line w.prices.items bells r.line)
+      (λ r. (r.burst + steps / r.period) * price_of_line w.prices bells r.line)
       (λ r is. ap (λ n. (r.burst + steps / r.period) * n) (line-price w r.line (below r.line is))) rates all
     where
       below : (n : ℕ) → nat_lt n 64 ≡ true → n < 64
@@ -140,9 +143,9 @@ module _ (image : Image) (fits : whole_image.fits image ≡ true) (well : IsWell
   -- lines that may be pending at rest
   pub lines-same : (w : Weights) (is_open : ℕ → Bool)
       → total (λ number. if is_open number then 0 else line_price (weights_of w) (described image) number) irq_lines
-      ≡ total (λ line. if is_open line then 0 else price_of_line w.prices.items bells line) (range_with_len 0 64)
+      ≡ total (λ line. if is_open line then 0 else price_of_line w.prices bells line) (range_with_len 0 64)
   unfolding irq_lines
   lines-same w is_open =
       range-same (λ number. if is_open number then 0 else line_price (weights_of w) (described image) number)
-      (λ line. if is_open line then 0 else price_of_line w.prices.items bells line) 0 64
+      (λ line. if is_open line then 0 else price_of_line w.prices bells line) 0 64
       (λ k less. ap (λ n. if is_open k then 0 else n) (line-price w k (omega (arith, less))))

@@ -17,14 +17,17 @@ use Rattle.model.specs.Kernel.State.{notification_at, thread_at}
 use Rattle.model.specs.Kernel.Waits.{open_count}
 use Rattle.headline.specs.starts.Laws.{ThreadsAreAsListed}
 use Rattle.headline.proofs.Laws.{is-listed}
-use Rattle.program_rules.specs.Views.{AreProgramViews, IsProgramView}
-use Rattle.program_rules.specs.declared.views.ProgramView.{ProgramView}
 use Rattle.response.specs.Left.{irq_lines, left, left_of_line, left_of_thread, left_of_word, total}
 use Rattle.response.specs.Levels.{is_of_level}
 use Rattle.response.specs.Weights.{Weights}
 use Rattle.responses.proofs.Lists.{and-true}
-use Rattle.responses.proofs.Threads.{total-from}
-use Rattle.responses.specs.Checks.{is_high}
+use Rattle.responses.proofs.OfThreads.{IsAt, place-is, total-from}
+use Rattle.responses.specs.Checks.{left_by}
+use Rattle.responses.specs.Found.{weights_at, weights_of}
+use Rattle.responses.specs.Keepers.{is_high}
+use Rattle.responses.specs.Outlines.{AreOutlines, place_at}
+use Rattle.responses.specs.declared.outlines.Outline.{Outline}
+use Rattle.responses.specs.declared.weights.Weights.{Weights as ListedWeights}
 use Rattle.thread_spaces.specs.Given.{IsListed}
 
 -- ---- no word is there, and no line is pending
@@ -90,7 +93,10 @@ module _ (image : Image) where
 
   module _ (fits : whole_image.fits image ≡ true) (well : IsWellFormed image) (listed_so : ThreadsAreAsListed)
       (places : (t : Thread) → IsListed image t → (t.header.base + 4 * t.header.words ≤ 2 ^ 31) × (t.header.entry < t.header.words))
-      (priority : ℕ) (w : Weights) where
+      (priority : ℕ) (programs : List Outline) (are : AreOutlines image 0 image.threads programs) (listed_weights : ListedWeights) where
+    abbrev w : Weights
+    w = weights_at programs listed_weights
+
     starts-at : (t : Thread) → IsListed image t → (start_of t - t.header.base) / 4 ≡ t.header.entry
     starts-at t listed =
         let place = places t listed in
@@ -99,10 +105,10 @@ module _ (image : Image) where
         let small : (t.header.base + 4 * t.header.entry) % 2 ^ 32 ≡ t.header.base + 4 * t.header.entry = omega (arith, above, inside) in
         omega (arith, small)
 
-    left-here : (t : Numbered) (p : ProgramView) → Contains (numbered_threads image) t → IsProgramView image t p
-        → left_of_thread image priority w (described image) [] t ≡ (if is_high priority p then p.header.budget + w.still p.number p.header.entry else 0)
+    left-here : (t : Numbered) (p : Outline) → Contains (numbered_threads image) t → IsAt image programs t p
+        → left_of_thread image priority w (described image) [] t ≡ left_by priority listed_weights p
     unfolding open_count
-    left-here t p listed view =
+    left-here t p listed at =
         let own = is-listed image t listed in
         let none-off : t.thread.header.budget - 0 ≡ t.thread.header.budget = omega arith in
         let state : thread_at (described image) (tcb_of image t) ≡ listed_thread t.thread
@@ -112,17 +118,17 @@ module _ (image : Image) where
         ∙ ap (λ n. if is_of_level priority t && true then n + w.still t.number ((start_of t.thread - t.thread.header.base) / 4) else 0) none-off
         ∙ ap (λ n. if is_of_level priority t && true then t.thread.header.budget + w.still t.number n else 0) (starts-at t.thread own)
         ∙ ap (λ b. if b then t.thread.header.budget + w.still t.number t.thread.header.entry else 0) (and-true (is_of_level priority t))
-        ∙ ap (λ (h : ThreadHeader). if nat_le priority h.priority then h.budget + w.still t.number h.entry else 0) (sym view.header)
-        ∙ ap (λ n. if nat_le priority p.header.priority then p.header.budget + w.still n p.header.entry else 0) (sym view.number)
+        ∙ ap (λ n. if is_of_level priority t then t.thread.header.budget + (weights_of listed_weights).still t.number n else 0)
+        (place-is image programs t p at t.thread.header.entry)
+        ∙ ap (λ (h : ThreadHeader). if nat_le priority h.priority then h.budget + (weights_of listed_weights).still t.number (place_at p h.entry) else 0)
+        (sym at.is.header)
+        ∙ ap (λ n. if is_high priority p then p.header.budget + (weights_of listed_weights).still n (place_at p p.header.entry) else 0) (sym at.is.number)
 
-    pub left-is : (programs : List ProgramView) → AreProgramViews image 0 image.threads programs
-        → left image priority w (described image) []
-        ≡ total (λ p. if is_high priority p then p.header.budget + w.still p.number p.header.entry else 0) programs
+    pub left-is : left image priority w (described image) [] ≡ total (left_by priority listed_weights) programs
     unfolding left
-    left-is programs are =
-        let threads = total-from image (λ p. if is_high priority p then p.header.budget + w.still p.number p.header.entry else 0)
-        (left_of_thread image priority w (described image) []) (λ t. Contains (numbered_threads image) t) left-here 0 image.threads programs
-        (λ t there. there) are in
+    left-is =
+        let threads = total-from image programs are (left_by priority listed_weights)
+        (left_of_thread image priority w (described image) []) (λ t. Contains (numbered_threads image) t) left-here (λ t there. there) in
         let words = no-words w in
         let lines = no-lines w in
         omega (arith, threads, words, lines)

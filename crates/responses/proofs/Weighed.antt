@@ -5,15 +5,19 @@ use Rattle.response.specs.Asking as is
 use Rattle.response.specs.Asking.{Asked}
 use Rattle.response.specs.Owed.{pays_answer}
 use Rattle.response.specs.Weights.{pays_for, price_of}
-use Rattle.program_rules.specs.declared.views.ProgramView.{ProgramView}
 use Rattle.responses.proofs.Lists.{and-true}
 use Rattle.responses.proofs.Priced.{price-same}
-use Rattle.responses.specs.Checks.{going_to, is_high, is_taken_among, owes_so}
+use Rattle.responses.specs.Asks.{asked}
+use Rattle.responses.specs.Checks.{going_to, owes_so, run_owes}
 use Rattle.responses.specs.Edges.{pays_wholly}
-use Rattle.responses.specs.Found.{number_at, price_in, weights_of}
-use Rattle.responses.specs.Seen.{asked}
+use Rattle.responses.specs.Found.{price_in, weights_of}
+use Rattle.responses.specs.Keepers.{is_high}
+use Rattle.responses.specs.Numbers.{is_among, number_at}
+use Rattle.responses.specs.Outlines.{next_of}
 use Rattle.responses.specs.declared.asks.Ask.{Ask}
 use Rattle.responses.specs.declared.asks.Ask.TheVariants.{Takes, Rings, Accepts, SendsTo, Calls, Tries}
+use Rattle.responses.specs.declared.outlines.Outline.{Outline}
+use Rattle.responses.specs.declared.outlines.Run.{Run}
 use Rattle.responses.specs.declared.weights.Weights.{Weights}
 
 either-way : (b x : Bool) → ((if b then true else x) && x) ≡ x
@@ -22,7 +26,7 @@ either-way false true = refl
 either-way false false = refl
 
 -- of a thread with this budget, from a point to another, where an object costs this
-module _ (w : Weights) (budget here next : ℕ) (ask : Ask) (o price : ℕ) (costs : price ≡ price_in w.prices.items o) (r : Bool) where
+module _ (w : Weights) (budget here next : ℕ) (ask : Ask) (o price : ℕ) (costs : price ≡ price_in w.prices o) (r : Bool) where
   law-price : price ≡ price_of (weights_of w) o
   law-price = costs ∙ sym (price-same w o)
 
@@ -56,24 +60,31 @@ module _ (w : Weights) (budget here next : ℕ) (ask : Ask) (o price : ℕ) (cos
       ∙ ap (λ (a : Ask). pays_wholly (weights_of w) budget here next (asked a)) (sym same)
 
 -- what a thread may wait with before a point
-module _ (priority : ℕ) (w : Weights) (taken owed : List ℕ) (p : ProgramView) (next : ℕ) (ask : Ask) (o : ℕ) (r : Bool) where
+module _ (priority : ℕ) (w : Weights) (taken owed : List ℕ) (p : Outline) (next : ℕ) (ask : Ask) (o : ℕ) (r : Bool) where
   pub sent-so : ask ≡ SendsTo o
-      → r ≡ (is_taken_among taken o || nat_le (price_in w.prices.items o + going_to priority w p next) (number_at owed p.number))
+      → r ≡ (is_among taken o || nat_le (price_in w.prices o + going_to priority w p next) (number_at owed p.number))
       → r ≡ owes_so priority w taken owed p next (asked ask)
   sent-so same fits =
-      fits ∙ ap (λ n. is_taken_among taken o || nat_le (n + going_to priority w p next) (number_at owed p.number)) (sym (price-same w o))
+      fits ∙ ap (λ n. is_among taken o || nat_le (n + going_to priority w p next) (number_at owed p.number)) (sym (price-same w o))
       ∙ ap (λ (a : Ask). owes_so priority w taken owed p next (asked a)) (sym same)
 
-  pub called-so : (price : ℕ) → price ≡ (if is_taken_among taken o then 0 else price_in w.prices.items o) → ask ≡ Calls o
+  pub called-so : (price : ℕ) → price ≡ (if is_among taken o then 0 else price_in w.prices o) → ask ≡ Calls o
       → r ≡ nat_le (price + going_to priority w p next) (number_at owed p.number) → r ≡ owes_so priority w taken owed p next (asked ask)
   called-so price costs same fits =
       fits
       ∙ ap (λ n. nat_le (n + going_to priority w p next) (number_at owed p.number))
-      (costs ∙ ap (λ n. if is_taken_among taken o then 0 else n) (sym (price-same w o)))
+      (costs ∙ ap (λ n. if is_among taken o then 0 else n) (sym (price-same w o)))
       ∙ ap (λ (a : Ask). owes_so priority w taken owed p next (asked a)) (sym same)
 
-  pub tried-so : ask ≡ Tries o → r ≡ (is_high priority p || is_taken_among taken o || nat_le (price_in w.prices.items o) (number_at owed p.number))
+  pub tried-so : ask ≡ Tries o → r ≡ (is_high priority p || is_among taken o || nat_le (price_in w.prices o) (number_at owed p.number))
       → r ≡ owes_so priority w taken owed p next (asked ask)
   tried-so same fits =
-      fits ∙ ap (λ n. is_high priority p || is_taken_among taken o || nat_le n (number_at owed p.number)) (sym (price-same w o))
+      fits ∙ ap (λ n. is_high priority p || is_among taken o || nat_le n (number_at owed p.number)) (sym (price-same w o))
       ∙ ap (λ (a : Ask). owes_so priority w taken owed p next (asked a)) (sym same)
+
+-- at the end of a run, which is clear
+pub run-so : (priority : ℕ) (w : Weights) (taken owed : List ℕ) (p : Outline) (run : Run) (next : ℕ) (r : Bool) → run.is_clear ≡ true
+    → next ≡ next_of run → r ≡ owes_so priority w taken owed p next (asked run.ask) → r ≡ run_owes priority w taken owed p run
+run-so priority w taken owed p run next r clear same fits =
+    fits ∙ ap (λ n. owes_so priority w taken owed p n (asked run.ask)) same
+    ∙ ap (λ b. b && owes_so priority w taken owed p (next_of run) (asked run.ask)) (sym clear)

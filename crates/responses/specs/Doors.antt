@@ -1,5 +1,5 @@
 -- Endpoints to which settled threads send, and what such threads ask, by what was found.
-use Rattle.std.specs.Prelude.{ℕ, ◌==◌, ◌&&◌, ◌||◌, Bool, nat_le, nat_lt, not, List, Option}
+use Rattle.std.specs.Prelude.{ℕ, ◌==◌, ◌&&◌, ◌||◌, Bool, is_some, nat_le, nat_lt, not, List, Option}
 use Rattle.std.specs.List.{list_all, list_any}
 use Rattle.settled_threads.specs.Tested.{is_input}
 use Rattle.settled_threads.specs.Tested.{Door as SpecDoor}
@@ -15,11 +15,12 @@ leads_in endpoint rank d = (d.endpoint == endpoint) && nat_le d.rank rank
 abbrev pub may_send : List Door → ℕ → ℕ → Bool
 may_send doors rank endpoint = list_any (leads_in endpoint rank) doors
 
-abbrev pub may_call : List Door → ℕ → ℕ → Bool
-may_call doors rank endpoint = list_any (λ d. d.answers && leads_in endpoint rank d) doors
+-- with this badge
+abbrev pub may_call : List Door → ℕ → ℕ → ℕ → Bool
+may_call doors rank badge endpoint = list_any (λ d. is_input badge d.answers && leads_in endpoint rank d) doors
 
 abbrev pub is_no_door : ℕ → Door → Bool
-is_no_door endpoint d = not (d.answers && (d.endpoint == endpoint))
+is_no_door endpoint d = not (is_some d.answers && (d.endpoint == endpoint))
 
 -- whoever receives there has it as its input, and comes before
 abbrev pub receives_before : Option ℕ → ℕ → ℕ → Door → Bool
@@ -30,7 +31,3 @@ are_before doors input rank endpoint = list_all (receives_before input rank endp
 
 abbrev pub are_no_door : List Door → ℕ → Bool
 are_no_door doors endpoint = list_all (is_no_door endpoint) doors
-
--- the input is a door that answers
-abbrev pub must_answer : List Door → Option ℕ → Bool
-must_answer doors input = list_any (λ d. d.answers && is_input d.endpoint input) doors

@@ -1,9 +1,14 @@
+pub mod Numbers
 pub mod Doors
+pub mod Asks
+pub mod Outlines
 pub mod Seen
+pub mod Prices
 pub mod Found
 pub mod Lines
-pub mod Owing
 pub mod Edges
+pub mod Inputs
+pub mod Keepers
 pub mod Checks
 pub mod Settling
 pub mod Bounds

@@ -1,14 +1,16 @@
 //! What a point of a program asks of other threads, and the tests of that.
 
 ghost use Rattle.std.specs.Prelude.{◌≡◌};
-ghost use Rattle.std.specs.List.{list_all};
+ghost use Rattle.model.specs.Acceptance.Authority.{badge_of};
 ghost use Rattle.response.specs.Asking.{asked_known, asked_by, asked_to_receive, asked_to_send};
 ghost use Rattle.response.specs.Responding.{leaves, takes_only};
-ghost use Rattle.responses.specs.Seen.{asked, test_of, view_passes};
+ghost use Rattle.responses.specs.Asks.{asked, test_of};
+ghost use Rattle.responses.specs.Seen.{asks_all, run_passes};
 
-use crate::doors::{Door, asks_settled, receives_so};
+use crate::doors::{Door, receives_so};
+use crate::outlines::{Outline, Run};
 use model::{Cap, ReceiveCall, SendCall, SystemCall};
-use program_rules::{PointView, SeenPoint};
+use program_rules::SeenPoint;
 
 /// What a point asks, of the notification or endpoint at an offset, or of a line.
 #[derive(Clone, Copy, Debug, PartialEq, Eq)]
@@ -93,6 +95,17 @@ pub(crate) fn ask_of(point: &SeenPoint) -> Ask
     }
 }
 
+/// The badge of a capability, if it has one.
+pub(crate) fn badge_of(capability: Cap) -> u32
+    ensures { result ≡ badge_of capability }
+{
+    match capability {
+        Cap::Endpoint { badge, .. } => badge,
+        Cap::Notification { badge, .. } => badge,
+        _ => 0,
+    }
+}
+
 /// A test of what a point asks.
 #[derive(Clone, Copy)]
 pub(crate) enum AskTest<'t> {
@@ -102,12 +115,6 @@ pub(crate) enum AskTest<'t> {
     Leaves {
         queue: u32,
         takes: bool,
-    },
-    /// It is what a settled thread of this rank and input may ask.
-    IsSettled {
-        doors: &'t [Door],
-        rank: u32,
-        input: u32,
     },
     /// It receives from doors that answer as a thread of this rank and input may, and polls none.
     KeepsDoors {
@@ -163,26 +170,21 @@ impl AskTest<'_> {
         match *self {
             AskTest::TakesOnly(queue) => takes_only(queue, ask),
             AskTest::Leaves { queue, takes } => leaves(queue, takes, ask),
-            AskTest::IsSettled { doors, rank, input } => asks_settled(doors, rank, input, ask),
             AskTest::KeepsDoors { doors, rank, input } => receives_so(doors, rank, input, ask),
         }
     }
 
-    /// Whether a point passes: one without a state does, and one that is unclear does not.
-    pub(crate) fn holds_at(&self, view: &PointView) -> bool
-        ensures { result ≡ view_passes (test_of self.now) view.now }
+    /// Whether what a run asks passes, if that is clear.
+    fn holds_at(&self, run: &Run) -> bool
+        ensures { result ≡ run_passes (test_of self.now) run.now }
     {
-        match view {
-            PointView::Unknown => true,
-            PointView::Unclear => false,
-            PointView::Seen(point) => self.passes(ask_of(point)),
-        }
+        run.is_clear && self.passes(run.ask)
     }
 
-    /// Whether all points pass.
-    pub(crate) fn holds_for(&self, points: &[PointView]) -> bool
-        ensures { result ≡ list_all (view_passes (test_of self.now)) points.now }
+    /// Whether what all runs of a program ask passes.
+    pub(crate) fn holds_for(&self, program: &Outline) -> bool
+        ensures { result ≡ asks_all (test_of self.now) program.now }
     {
-        points.iter().all(|view| self.holds_at(view))
+        program.runs.iter().all(|run| self.holds_at(run))
     }
 }

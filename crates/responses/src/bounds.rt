@@ -1,25 +1,30 @@
 //! The public call: how soon a level of threads comes to rest.
 
-ghost use Rattle.std.specs.Prelude.{◌≡◌, IfErr, IfOk, map, true};
+ghost use Rattle.std.specs.Prelude.{◌≡◌, IfErr, IfOk, map};
 ghost use Rattle.model.specs.declared.refusals.Refusal.TheVariants.{OutOfMemory};
 ghost use Rattle.responses.specs.Bounds.{IsResponseOf, IsTested};
 ghost use Rattle.responses.specs.Found.{rate_of};
 
 use crate::checks::Claim;
-use crate::finding::{
-    PlacedPoint, acknowledged_lines, inputs_of, owed_for, set_going_below, steps_for, tended_lines,
-    unrated, weights_for,
-};
+use crate::finding::{inputs_of, owed_for, set_going_below, steps_for, unrated};
 use crate::lines::LINES;
 use crate::settled::Settled;
 use crate::settling::settled_for;
 use crate::sums::left_at_start;
 use crate::systems::{Levels, levels_of};
-use crate::weights::{AcknowledgedLine, Weights};
+use crate::weighing::{Unweighed, weights_for};
+use crate::weights::Weights;
 use model::Refusal;
 use settled_threads::tested_settled_responses_hold;
 use std::alloc::{AllocError, Global};
 use verify::Accepted;
+
+/// A point of a thread of the image, both by their numbers from 0 on.
+#[derive(Clone, Copy, Debug, PartialEq, Eq)]
+pub struct PlacedPoint {
+    pub thread: u32,
+    pub point: u32,
+}
 
 /// How often interrupts of a line come: in any stretch of events at most so many, and one more for each period.
 #[derive(Clone, Copy, Debug)]
@@ -30,27 +35,19 @@ pub struct Rate {
     pub period: u64,
 }
 
-/// For how many steps on end a level runs at most, and what that is made of. All numbers are of steps, which are instructions.
+/// For how many steps on end a level runs at most. All numbers are of steps, which are instructions.
 #[derive(Drop)]
 pub struct Bound {
     /// From the start on.
     pub steps: u64,
     /// Once the level has rested.
     pub later: u64,
-    /// What may be left at the start and at rest, and at rest alone.
-    pub most_at_first: u64,
-    pub most_at_rest: u64,
-    pub weights: Weights,
-    /// The threads of the level that are settled: at rest each waits at its input.
-    pub settled: Settled,
-    /// Their inputs, the notifications and endpoints by their offsets: nothing is left there then.
-    pub taken: Vec<u32>,
+    /// Of each thread by its number: its input, a notification or an endpoint by its offset, if it is settled. At rest it waits there.
+    pub inputs: Vec<Option<u32>>,
     /// The lines that are dealt with, each within as many steps, by threads that neither send, call nor receive.
-    pub lines: Vec<AcknowledgedLine>,
+    pub lines: Vec<u32>,
     /// All lines that are dealt with, each within as many steps: those too whose threads send and call on the way.
-    pub tended: Vec<AcknowledgedLine>,
-    /// What each thread by its number may wait with at rest, to send or for an answer.
-    pub owed: Vec<u64>,
+    pub tended: Vec<u32>,
 }
 
 /// Why there is no bound.
@@ -79,18 +76,38 @@ struct Level {
     weights: Weights,
     settled: Settled,
     taken: Vec<u32>,
-    lines: Vec<AcknowledgedLine>,
-    tended: Vec<AcknowledgedLine>,
+    lines: Vec<u32>,
+    tended: Vec<u32>,
     owed: Vec<u64>,
 }
 
 /// Numbers of steps, and what may be left.
 #[derive(Clone, Copy)]
-struct Numbers {
-    steps: u64,
-    later: u64,
-    most_at_first: u64,
-    most_at_rest: u64,
+pub(crate) struct Numbers {
+    pub(crate) steps: u64,
+    pub(crate) later: u64,
+    /// At the start and at rest, and at rest alone.
+    pub(crate) most_at_first: u64,
+    pub(crate) most_at_rest: u64,
+}
+
+/// What a bound rests on.
+#[derive(Drop)]
+pub(crate) struct Basis {
+    pub(crate) weights: Weights,
+    /// Inputs of settled threads: nothing is left there at rest.
+    pub(crate) taken: Vec<u32>,
+    /// What each thread by its number may wait with at rest, to send or for an answer.
+    pub(crate) owed: Vec<u64>,
+    /// What may be left at rest.
+    pub(crate) most_at_rest: u64,
+}
+
+/// An answer, and what its bound rests on, if it is one.
+#[derive(Drop)]
+pub(crate) struct Answer {
+    pub(crate) response: Response,
+    pub(crate) basis: Option<Basis>,
 }
 
 impl Level {
@@ -98,12 +115,9 @@ impl Level {
     fn claim<'c>(&'c self, priority: u32, rates: &'c [Rate]) -> Claim<'c>
         ensures priority { result.priority ≡ priority }
         ensures rates { result.rates.now ≡ rates.now }
-        ensures weights { result.weights.now ≡ self.now.weights }
         ensures settled { result.settled.now ≡ self.now.settled }
-        ensures taken { result.taken.now ≡ self.now.taken.items }
         ensures lines { result.lines.now ≡ self.now.lines.items }
         ensures tended { result.tended.now ≡ self.now.tended.items }
-        ensures owed { result.owed.now ≡ self.now.owed.items }
     {
         Claim {
             priority,
@@ -118,19 +132,31 @@ impl Level {
     }
 }
 
+impl Answer {
+    /// One that is no bound.
+    fn without_basis(response: Response) -> Self
+        ensures { result.response ≡ response }
+    {
+        Answer {
+            response,
+            basis: None,
+        }
+    }
+}
+
 impl Levels<'_, '_> {
     /// The level's weights, and what rests with it; or why there are none. Memory may be refused.
     fn find(&self, alloc: Global, priority: u32) -> Result<Result<Level, Why>, AllocError> {
         let programs = self.programs.as_slice();
-        let weights = match weights_for(alloc, programs, priority)? {
+        let weights = match weights_for(alloc, programs, &self.threads, priority)? {
             Ok(weights) => weights,
-            Err(place) => return Ok(Err(Why::Rises(place))),
+            Err(Unweighed::Rises(at)) => return Ok(Err(Why::Rises(at))),
+            Err(Unweighed::TooGreat) => return Ok(Err(Why::OutOfRange)),
         };
-        let settled = settled_for(alloc, programs, priority)?;
-        let taken = inputs_of(alloc, &settled, weights.prices.as_slice())?;
-        let bells = self.bells.as_slice();
-        let lines = acknowledged_lines(alloc, programs, bells, priority)?;
-        let tended = tended_lines(alloc, programs, bells, &settled)?;
+        let settled = settled_for(alloc, programs, &self.threads, priority)?;
+        let taken = inputs_of(alloc, &settled)?;
+        let lines = self.lines_alone(alloc, priority)?;
+        let tended = self.lines_tended(alloc, &settled)?;
         let owed = owed_for(
             alloc,
             &weights,
@@ -154,7 +180,7 @@ impl Levels<'_, '_> {
         let programs = self.programs.as_slice();
         let bells = self.bells.as_slice();
         let below = set_going_below(claim, programs);
-        let most_at_rest = self.rest(claim)?.checked_add(below)?;
+        let most_at_rest = claim.rest(programs, bells)?.checked_add(below)?;
         let left = left_at_start(claim.weights, claim.priority, programs)?;
         let most_at_first = most_at_rest.max(left);
         Some(Numbers {
@@ -165,26 +191,10 @@ impl Levels<'_, '_> {
         })
     }
 
-    /// Whether numbers pass the test, from the start and later.
-    fn pass(&self, claim: &Claim<'_>, numbers: &Numbers) -> bool
-        ensures { result ≡ true → IsTested self.now claim.now.priority
-            (map rate_of claim.now.rates.now) claim.now.weights.now claim.now.settled.now claim.now.taken.now claim.now.lines.now claim.now.tended.now
-            claim.now.owed.now numbers.now.most_at_first numbers.now.steps numbers.now.most_at_rest numbers.now.later }
-    {
-        if !self.acknowledges(claim) {
-            return false;
-        }
-        if !self.holds_rested(claim, numbers.most_at_rest, numbers.later) {
-            return false;
-        }
-        self.holds(claim, numbers.most_at_first, numbers.steps)
-    }
-
     /// The numbers of a level that was found, which pass the test; or why there are none.
     fn tested(&self, level: &Level, priority: u32, rates: &[Rate]) -> Result<Numbers, Option<Why>>
-        ensures { IfOk result (λ n. IsTested self.now priority
-            (map rate_of rates.now) level.now.weights level.now.settled level.now.taken.items level.now.lines.items level.now.tended.items level.now.owed.items
-            n.most_at_first n.steps n.most_at_rest n.later) }
+        ensures { IfOk result (λ n. IsTested self.now priority (map rate_of rates.now) level.now.settled.inputs.items level.now.lines.items
+            level.now.tended.items n.steps n.later) }
     {
         if rates
             .iter()
@@ -206,25 +216,48 @@ impl Levels<'_, '_> {
     }
 
     /// The answer for a level that was found.
-    fn answer(&self, level: Level, priority: u32, rates: &[Rate]) -> Response
-        ensures { IsResponseOf self.now priority (map rate_of rates.now) result }
+    fn answer(&self, level: Level, priority: u32, rates: &[Rate]) -> Answer
+        ensures { IsResponseOf self.now priority (map rate_of rates.now) result.response }
     {
         tested_settled_responses_hold();
         match self.tested(&level, priority, rates) {
-            Ok(numbers) => Response::Bound(Bound {
-                steps: numbers.steps,
-                later: numbers.later,
-                most_at_first: numbers.most_at_first,
-                most_at_rest: numbers.most_at_rest,
-                weights: level.weights,
-                settled: level.settled,
-                taken: level.taken,
-                lines: level.lines,
-                tended: level.tended,
-                owed: level.owed,
-            }),
-            Err(Some(why)) => Response::NoBound(why),
-            Err(None) => Response::TooMuch,
+            Ok(numbers) => {
+                let settled = level.settled;
+                Answer {
+                    response: Response::Bound(Bound {
+                        steps: numbers.steps,
+                        later: numbers.later,
+                        inputs: settled.inputs,
+                        lines: level.lines,
+                        tended: level.tended,
+                    }),
+                    basis: Some(Basis {
+                        weights: level.weights,
+                        taken: level.taken,
+                        owed: level.owed,
+                        most_at_rest: numbers.most_at_rest,
+                    }),
+                }
+            }
+            Err(Some(why)) => Answer::without_basis(Response::NoBound(why)),
+            Err(None) => Answer::without_basis(Response::TooMuch),
+        }
+    }
+
+    /// How soon the threads of a priority and above come to rest at these rates, with what that rests on. Memory may be refused.
+    pub(crate) fn answered(
+        &self,
+        alloc: Global,
+        priority: u32,
+        rates: &[Rate],
+    ) -> Result<Answer, Refusal>
+        ensures bound { IfOk result (λ answer. IsResponseOf self.now priority (map rate_of rates.now) answer.response) }
+        ensures memory { IfErr result (λ refusal. refusal ≡ OutOfMemory) }
+    {
+        let _ = self.image;
+        match self.find(alloc, priority)? {
+            Ok(level) => Ok(self.answer(level, priority, rates)),
+            Err(why) => Ok(Answer::without_basis(Response::NoBound(why))),
         }
     }
 
@@ -242,11 +275,8 @@ impl Levels<'_, '_> {
         ensures bound { IfOk result (IsResponseOf self.now priority (map rate_of rates.now)) }
         ensures memory { IfErr result (λ refusal. refusal ≡ OutOfMemory) }
     {
-        let _ = self.image;
-        match self.find(alloc, priority)? {
-            Ok(level) => Ok(self.answer(level, priority, rates)),
-            Err(why) => Ok(Response::NoBound(why)),
-        }
+        let answer = self.answered(alloc, priority, rates)?;
+        Ok(answer.response)
     }
 }
 

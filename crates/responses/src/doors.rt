@@ -3,18 +3,20 @@
 ghost use Rattle.std.specs.Prelude.{◌≡◌, ◌&&◌};
 ghost use Rattle.std.specs.List.{list_all, list_any};
 ghost use Rattle.settled_threads.specs.Tested.{asks_settled, is_input, receives_so};
-ghost use Rattle.responses.specs.Doors.{are_before, are_no_door, is_no_door, leads_in, may_call, may_send, must_answer, receives_before};
-ghost use Rattle.responses.specs.Seen.{asked};
+ghost use Rattle.responses.specs.Doors.{are_before, are_no_door, is_no_door, leads_in, may_call, may_send, receives_before};
+ghost use Rattle.responses.specs.Asks.{asked};
 
 use crate::asks::Ask;
+use crate::outlines::Run;
 
-/// An endpoint to which settled threads of this rank or above send: a settled thread receives there that comes before. One that answers may be called
-/// too: nobody polls it, and each thread that receives there is settled, comes before, and answers on each way from one take to the next.
-#[derive(Clone, Copy, Debug)]
-pub struct Door {
-    pub endpoint: u32,
-    pub rank: u32,
-    pub answers: bool,
+/// An endpoint to which settled threads of this rank or above send: a settled thread receives there that comes before. One that answers a badge may be
+/// called with it too: nobody polls it, and each thread that receives there is settled, comes before, and answers on each way that a message with this
+/// badge can take.
+#[derive(Clone, Copy)]
+pub(crate) struct Door {
+    pub(crate) endpoint: u32,
+    pub(crate) rank: u32,
+    pub(crate) answers: Option<u32>,
 }
 
 /// Whether an input, if there is one, is this object.
@@ -35,18 +37,18 @@ impl Door {
         self.endpoint == endpoint && self.rank <= rank
     }
 
-    /// Whether it answers, too.
-    fn answers_in(&self, endpoint: u32, rank: u32) -> bool
-        ensures { result ≡ (self.now.answers && leads_in endpoint rank self.now) }
+    /// Whether it answers this badge, too.
+    fn answers_in(&self, endpoint: u32, rank: u32, badge: u32) -> bool
+        ensures { result ≡ (is_input badge self.now.answers && leads_in endpoint rank self.now) }
     {
-        self.answers && self.leads_in(endpoint, rank)
+        is_input(badge, self.answers) && self.leads_in(endpoint, rank)
     }
 
     /// Whether it is not one that answers at this endpoint.
     fn is_no_door(&self, endpoint: u32) -> bool
         ensures { result ≡ is_no_door endpoint self.now }
     {
-        !(self.answers && self.endpoint == endpoint)
+        !(self.answers.is_some() && self.endpoint == endpoint)
     }
 
     /// Whether a thread of this input and rank receives from it so, if it does from the endpoint.
@@ -54,13 +56,6 @@ impl Door {
         ensures { result ≡ receives_before input rank endpoint self.now }
     {
         self.is_no_door(endpoint) || (is_input(endpoint, input) && rank < self.rank)
-    }
-
-    /// Whether it answers, and is this input.
-    fn is_answering(&self, input: Option<u32>) -> bool
-        ensures { result ≡ (self.now.answers && is_input self.now.endpoint input) }
-    {
-        self.answers && is_input(self.endpoint, input)
     }
 }
 
@@ -71,11 +66,13 @@ fn may_send(doors: &[Door], rank: u32, endpoint: u32) -> bool
     doors.iter().any(|door| door.leads_in(endpoint, rank))
 }
 
-/// Whether it may call it.
-fn may_call(doors: &[Door], rank: u32, endpoint: u32) -> bool
-    ensures { result ≡ may_call doors.now rank endpoint }
+/// Whether it may call it with a badge.
+fn may_call(doors: &[Door], rank: u32, badge: u32, endpoint: u32) -> bool
+    ensures { result ≡ may_call doors.now rank badge endpoint }
 {
-    doors.iter().any(|door| door.answers_in(endpoint, rank))
+    doors
+        .iter()
+        .any(|door| door.answers_in(endpoint, rank, badge))
 }
 
 /// Whether a thread of this input and rank may receive from the endpoint.
@@ -94,22 +91,15 @@ fn are_no_door(doors: &[Door], endpoint: u32) -> bool
     doors.iter().all(|door| door.is_no_door(endpoint))
 }
 
-/// Whether a thread with this input has to answer.
-pub(crate) fn must_answer(doors: &[Door], input: Option<u32>) -> bool
-    ensures { result ≡ must_answer doors.now input }
+/// Whether a settled thread of this rank and input may ask what a run asks.
+pub(crate) fn asks_settled(doors: &[Door], rank: u32, input: u32, run: &Run) -> bool
+    ensures { result ≡ asks_settled (may_send doors.now rank) (may_call doors.now rank run.now.badge) input (asked run.now.ask) }
 {
-    doors.iter().any(|door| door.is_answering(input))
-}
-
-/// Whether a settled thread of this rank and input may ask this.
-pub(crate) fn asks_settled(doors: &[Door], rank: u32, input: u32, ask: Ask) -> bool
-    ensures { result ≡ asks_settled (may_send doors.now rank) (may_call doors.now rank) input (asked ask) }
-{
-    match ask {
+    match run.ask {
         Ask::Takes(object) => object == input,
         Ask::Accepts { endpoint, .. } => endpoint == input,
         Ask::SendsTo(endpoint) => may_send(doors, rank, endpoint),
-        Ask::Calls(endpoint) => may_call(doors, rank, endpoint),
+        Ask::Calls(endpoint) => may_call(doors, rank, run.badge, endpoint),
         Ask::Polls(_) => true,
         Ask::Rings(_) => true,
         Ask::Acknowledges(_) => true,

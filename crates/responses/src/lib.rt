@@ -2,31 +2,35 @@
 //! others do, where interrupts come no more often than their rates say. The weights that show it are found in any way, and checked in one pass.
 #![tactic(auto)]
 
+mod answers;
 mod asks;
 mod bounds;
 mod checks;
 mod doors;
+mod drafts;
 mod edge_checks;
 mod finding;
+mod keepers;
+mod kinds;
 mod lines;
 mod marks;
-mod owing;
+mod outlines;
+mod price;
+mod prices;
 mod rows;
 mod settled;
 mod settling;
 mod shares;
+mod spans;
 mod stretches;
 mod sums;
 mod systems;
+mod threads;
+mod weighing;
 mod weights;
 
-pub use bounds::{Bound, Rate, Response, Why, respond};
-pub use doors::Door;
-pub use finding::PlacedPoint;
-pub use lines::Bell;
+pub use bounds::{Bound, PlacedPoint, Rate, Response, Why, respond};
 pub use rows::{LineParts, Parts, Responses, Row, responded};
-pub use settled::Settled;
 pub use shares::{Reason, Share};
 pub use stretches::{Cause, How, Stretch};
 pub use systems::{Levels, levels_of};
-pub use weights::{AcknowledgedLine, Price, Weights};

@@ -1,12 +1,12 @@
 //! What the lines of an image signal.
 
-ghost use Rattle.std.specs.Prelude.{◌≡◌, ◌==◌, ◌<◌, IfErr, IfOk, find, length, option_map, slice_get};
+ghost use Rattle.std.specs.Prelude.{◌≡◌, ◌==◌, IfErr, IfOk, find, option_map};
 ghost use Rattle.model.specs.Acceptance.Accepted.{IsWellFormed};
 ghost use Rattle.model.specs.declared.refusals.Refusal.TheVariants.{OutOfMemory};
 ghost use Rattle.responses.specs.Lines.{AreBells, bell_at, bell_for};
 
 use image_reading::{ImageRef, header_of};
-use model::{InterruptEntry, Refusal};
+use model::Refusal;
 use std::alloc::Global;
 use thread_spaces::PlacedImage;
 
@@ -14,23 +14,10 @@ use thread_spaces::PlacedImage;
 pub(crate) const LINES: u32 = 64;
 
 /// What a line signals: the notification at an offset, with a badge.
-#[derive(Clone, Copy, Debug, Drop)]
-pub struct Bell {
-    pub notification: u32,
-    pub badge: u32,
-}
-
-/// What an interrupt of the image signals.
-fn bell_for(placed: &PlacedImage<'_, '_>, entry: InterruptEntry) -> Bell
-    requires { entry.notification < placed.now.image.now.header.objects }
-    ensures { result ≡ bell_for placed.now.image.now entry }
-{
-    let image = placed.image;
-    let _ = image.header();
-    Bell {
-        notification: placed.offsets[entry.notification as usize],
-        badge: entry.badge,
-    }
+#[derive(Clone, Copy, Drop)]
+pub(crate) struct Bell {
+    pub(crate) notification: u32,
+    pub(crate) badge: u32,
 }
 
 /// What a line signals, if the image binds it.
@@ -41,7 +28,10 @@ fn bell_of(placed: &PlacedImage<'_, '_>, line: u32) -> Option<Bell>
     for number in 0..header_of(image).interrupts {
         let entry = image.interrupt(number);
         if entry.line == line {
-            return Some(bell_for(placed, entry));
+            return Some(Bell {
+                notification: placed.offsets[entry.notification as usize],
+                badge: entry.badge,
+            });
         }
     }
     None

@@ -1,74 +1,79 @@
-//! The marks of a line: before which points of a program it was acknowledged on each way from a take on.
+//! The marks of a line: before which runs of a program it was acknowledged on each way from a take on. What is found is tested apart, so nothing is
+//! promised of it here.
 
-use crate::asks::{Ask, ask_of};
-use crate::edge_checks::point_at;
-use program_rules::{PointView, ProgramView, SeenPoint};
+use crate::asks::Ask;
+use crate::outlines::{Outline, Run};
 use std::alloc::{AllocError, Global};
 
-/// How often marks are gone over at most.
-const ROUNDS: usize = 1024;
-
-/// Takes a mark away, and whether it was there.
-fn unmark(marks: &mut [bool], point: usize) -> bool {
-    if point < marks.len() && marks[point] {
-        marks[point] = false;
-        return true;
-    }
-    false
+/// Marks, and the runs whose ways are to be looked at.
+#[derive(Drop)]
+struct Marking {
+    marks: Vec<bool>,
+    open: Vec<usize>,
 }
 
-/// Whether the mark of a point after one that asks this is to go.
-fn is_lost(line: u32, here: bool, ask: Ask) -> bool {
-    match ask {
-        Ask::Takes(_) => true,
-        Ask::Acknowledges(other) => other != line && !here,
-        _ => !here,
+impl Marking {
+    /// All runs of a program, with this mark.
+    fn new(alloc: Global, program: &Outline, mark: bool) -> Result<Self, AllocError> {
+        let mut marks = Vec::new(alloc);
+        marks.resize(program.runs.len(), mark)?;
+        Ok(Marking {
+            marks,
+            open: Vec::new(alloc),
+        })
     }
-}
 
-/// Takes away the marks that a point's ways take away, and whether there was one.
-fn pass_point(marks: &mut [bool], base: u32, line: u32, point: usize, seen: &SeenPoint) -> bool {
-    let here = point < marks.len() && marks[point];
-    if !is_lost(line, here, ask_of(seen)) {
-        return false;
-    }
-    let mut lost = false;
-    if let Some(address) = seen.taken {
-        lost = unmark(marks, point_at(base, address));
-    }
-    if let Some(address) = seen.next {
-        if unmark(marks, point_at(base, address)) {
-            lost = true;
+    /// Gives a run this mark; where it had another one its ways are to be looked at.
+    fn set(&mut self, way: Option<u32>, mark: bool) -> Result<(), AllocError> {
+        let Some(place) = way else {
+            return Ok(());
+        };
+        let place = place as usize;
+        if place < self.marks.len() && self.marks[place] != mark {
+            self.marks[place] = mark;
+            self.open.push(place)?;
         }
+        Ok(())
     }
-    lost
+
+    /// Gives the runs to which a run leads this mark.
+    fn set_after(&mut self, run: &Run, mark: bool) -> Result<(), AllocError> {
+        self.set(run.taken, mark)?;
+        self.set(run.next, mark)
+    }
+
+    /// A run whose ways are to be looked at.
+    fn next(&mut self) -> Option<usize> {
+        self.open.pop()
+    }
+
+    /// The marks.
+    fn finish(self) -> Vec<bool> {
+        self.marks
+    }
 }
 
-/// Takes away what is to go, over all points once, and whether there was any.
-fn pass_all(marks: &mut [bool], line: u32, program: &ProgramView) -> bool {
-    let mut lost = false;
-    for point in 0..program.points.len() {
-        if let PointView::Seen(seen) = &program.points[point] {
-            if pass_point(marks, program.header.base, line, point, seen) {
-                lost = true;
-            }
-        }
-    }
-    lost
-}
-
-/// The marks of a line in a program: as many as can be kept. Memory may be refused.
+/// The marks of a line in a program: as many as can be kept. Each run is looked at a fixed number of times. Memory may be refused.
 pub(crate) fn marks_of(
     alloc: Global,
     line: u32,
-    program: &ProgramView,
+    program: &Outline,
 ) -> Result<Vec<bool>, AllocError> {
-    let mut marks = Vec::new(alloc);
-    marks.resize(program.points.len(), true)?;
-    for _ in 0..ROUNDS {
-        if !pass_all(marks.as_mut_slice(), line, program) {
-            return Ok(marks);
+    let mut marking = Marking::new(alloc, program, true)?;
+    for run in &program.runs {
+        if let Ask::Takes(_) = run.ask {
+            marking.set_after(run, false)?;
         }
     }
-    Ok(marks)
+    for _ in 0..program.runs.len() {
+        let Some(place) = marking.next() else {
+            break;
+        };
+        if let Some(run) = program.runs.get(place) {
+            if run.ask != Ask::Acknowledges(line) {
+                marking.set_after(run, false)?;
+            }
+        }
+    }
+    Ok(marking.finish())
 }

@@ -6,8 +6,8 @@ ghost use Rattle.model.specs.declared.refusals.Refusal.TheVariants.{OutOfMemory}
 ghost use Rattle.responses.specs.Bounds.{IsResponseOf, IsRow};
 ghost use Rattle.responses.specs.Found.{rate_of};
 
-use crate::bounds::{Bound, Rate, Response};
-use crate::shares::Share;
+use crate::bounds::{Basis, Bound, Rate, Response};
+use crate::shares::{Share, shares_of};
 use crate::stretches::{Stretch, stretches_of};
 use crate::systems::{Levels, levels_of};
 use model::Refusal;
@@ -64,17 +64,22 @@ impl Levels<'_, '_> {
     fn lines_of(
         &self,
         alloc: Global,
+        basis: &Basis,
         bound: &Bound,
         priority: u32,
     ) -> Result<Vec<LineParts>, AllocError> {
         let mut parts = Vec::new(alloc);
-        for open in &bound.tended {
-            if let Some(Some(bell)) = self.bells.get(open.line as usize) {
-                let programs = self.programs.as_slice();
-                let object = bell.notification;
-                let stretches = stretches_of(alloc, programs, &bound.weights, priority, object)?;
+        for line in &bound.tended {
+            if let Some(Some(bell)) = self.bells.get(*line as usize) {
+                let stretches = stretches_of(
+                    alloc,
+                    self,
+                    &basis.weights,
+                    priority,
+                    bell.notification,
+                )?;
                 parts.push(LineParts {
-                    line: open.line,
+                    line: *line,
                     stretches,
                 })?;
             }
@@ -88,14 +93,15 @@ impl Levels<'_, '_> {
         alloc: Global,
         priority: u32,
         response: &Response,
+        basis: Option<&Basis>,
         rates: &[Rate],
     ) -> Result<Parts, AllocError> {
-        match response {
-            Response::Bound(bound) => Ok(Parts {
-                shares: bound.shares(alloc, self, rates)?,
-                lines: self.lines_of(alloc, bound, priority)?,
+        match (response, basis) {
+            (Response::Bound(bound), Some(basis)) => Ok(Parts {
+                shares: shares_of(alloc, self, basis, bound, rates)?,
+                lines: self.lines_of(alloc, basis, bound, priority)?,
             }),
-            Response::NoBound(_) | Response::TooMuch => Ok(Parts {
+            _ => Ok(Parts {
                 shares: Vec::new(alloc),
                 lines: Vec::new(alloc),
             }),
@@ -107,11 +113,17 @@ impl Levels<'_, '_> {
         ensures row { IfOk result (λ row. IsResponseOf self.now row.priority (map rate_of rates.now) row.response) }
         ensures memory { IfErr result (λ refusal. refusal ≡ OutOfMemory) }
     {
-        let response = self.response(alloc, priority, rates)?;
-        let parts = self.parts_of(alloc, priority, &response, rates)?;
+        let answer = self.answered(alloc, priority, rates)?;
+        let parts = self.parts_of(
+            alloc,
+            priority,
+            &answer.response,
+            answer.basis.as_ref(),
+            rates,
+        )?;
         Ok(Row {
             priority,
-            response,
+            response: answer.response,
             parts,
         })
     }
@@ -129,8 +141,8 @@ fn rows_of(alloc: Global, levels: &Levels<'_, '_>, rates: &[Rate]) -> Result<Vec
     Ok(rows)
 }
 
-/// How soon the levels of an image come to rest at these rates. After its verification it goes over the points of all programs for each priority,
-/// round after round, until no weight rises and no further thread is found to be settled.
+/// How soon the levels of an image come to rest at these rates. After its verification it reads the points of all programs once more; then it goes over
+/// what asks something there a fixed number of times for each priority.
 ///
 /// # Errors
 ///

@@ -1,54 +1,31 @@
 //! Settled threads of a level, and the test of them.
 
-ghost use Rattle.std.specs.Prelude.{◌≡◌, false};
+ghost use Rattle.std.specs.Prelude.{◌≡◌};
 ghost use Rattle.std.specs.List.{list_all, list_any};
-ghost use Rattle.std.specs.Option.{option_map_or};
-ghost use Rattle.responses.specs.Found.{number_at};
-ghost use Rattle.responses.specs.Owing.{input_at, mark_at, owes_at};
-ghost use Rattle.responses.specs.Settling.{are_settled, comes_before, has_taker, is_input_there, is_settled, keeps_doors};
+ghost use Rattle.responses.specs.Numbers.{number_at};
+ghost use Rattle.responses.specs.Inputs.{input_at};
+ghost use Rattle.responses.specs.Settling.{answers_door, are_settled, comes_before, has_taker, is_input_there, is_settled, keeps_doors, may_ask};
 
 use crate::asks::AskTest;
-use crate::doors::{Door, is_input, must_answer};
-use crate::edge_checks::EdgeTest;
+use crate::doors::{Door, asks_settled, is_input};
+use crate::outlines::{Outline, Run};
 use crate::sums::is_high;
-use program_rules::ProgramView;
+use answering::{Answered, answers_at};
 
 /// The threads of a level that are settled: each takes from one object alone, its input, and sends to and calls such threads alone that come before it
 /// and take what comes. Where nothing of the level is ready each waits at its input, and not in a call or a send.
 #[derive(Drop)]
-pub struct Settled {
+pub(crate) struct Settled {
     /// Of each thread by its number: its input, by its offset, if it is settled.
-    pub inputs: Vec<Option<u32>>,
+    pub(crate) inputs: Vec<Option<u32>>,
     /// Of each thread by its number: who comes first has the lower rank.
-    pub ranks: Vec<u32>,
-    pub doors: Vec<Door>,
-    /// Of each thread by its number, and each point: whether it may owe an answer there.
-    pub owing: Vec<Vec<bool>>,
-}
-
-/// Whether a point is marked.
-pub(crate) fn mark_at(marks: &[bool], point: usize) -> bool
-    ensures { result ≡ mark_at marks.now point }
-{
-    match marks.get(point) {
-        Some(mark) => *mark,
-        None => false,
-    }
-}
-
-/// Whether a point is marked of a thread.
-fn mark_among(points: Option<&Vec<bool>>, point: usize) -> bool
-    ensures { result ≡ option_map_or (λ marks. mark_at marks.now.items point) points.entry false }
-{
-    match points {
-        Some(points) => mark_at(points.as_slice(), point),
-        None => false,
-    }
+    pub(crate) ranks: Vec<u32>,
+    pub(crate) doors: Vec<Door>,
 }
 
 impl Settled {
     /// The input of a thread, if it is settled.
-    pub fn input(&self, thread: u32) -> Option<u32>
+    pub(crate) fn input(&self, thread: u32) -> Option<u32>
         ensures { result ≡ input_at self.now.inputs.items thread }
     {
         match self.inputs.get(thread as usize) {
@@ -67,73 +44,95 @@ impl Settled {
         }
     }
 
-    /// Whether a thread may owe an answer at a point.
-    pub(crate) fn owes_at(&self, thread: u32, point: usize) -> bool
-        ensures { result ≡ owes_at self.now thread point }
-    {
-        mark_among(self.owing.get(thread as usize), point)
-    }
-
     /// Whether a thread is settled with this input, and comes before the rank.
-    fn comes_before(&self, object: u32, rank: u32, program: &ProgramView) -> bool
+    fn comes_before(&self, object: u32, rank: u32, program: &Outline) -> bool
         ensures { result ≡ comes_before self.now object rank program.now }
     {
         is_input(object, self.input(program.number)) && self.rank(program.number) < rank
     }
 
     /// Whether such a thread receives at a door.
-    fn has_taker(&self, programs: &[ProgramView], door: &Door) -> bool
+    fn has_taker(&self, programs: &[Outline], door: &Door) -> bool
         ensures { result ≡ has_taker self.now programs.now door.now }
     {
         programs.iter().any(|program| self.comes_before(door.endpoint, door.rank, program))
     }
 
     /// Whether one does at each door.
-    fn have_takers(&self, programs: &[ProgramView]) -> bool
+    fn have_takers(&self, programs: &[Outline]) -> bool
         ensures { result ≡ list_all (has_taker self.now programs.now) self.now.doors.items }
     {
         self.doors.iter().all(|door| self.has_taker(programs, door))
     }
 
+    /// Whether a thread of this rank and input may ask what a run asks, if that is clear.
+    fn may_ask(&self, rank: u32, input: u32, run: &Run) -> bool
+        ensures { result ≡ may_ask self.now.doors.items rank input run.now }
+    {
+        run.is_clear && asks_settled(self.doors.as_slice(), rank, input, run)
+    }
+
+    /// Whether it may ask what all runs of a program ask.
+    fn may_ask_all(&self, rank: u32, input: u32, program: &Outline) -> bool
+        ensures { result ≡ list_all (may_ask self.now.doors.items rank input) program.now.runs.items }
+    {
+        program
+            .runs
+            .iter()
+            .all(|run| self.may_ask(rank, input, run))
+    }
+
     /// Whether a thread asks only what it may, if it is settled.
-    fn is_settled(&self, priority: u32, program: &ProgramView) -> bool
+    fn is_settled(&self, priority: u32, program: &Outline) -> bool
         ensures { result ≡ is_settled priority self.now program.now }
     {
         match self.input(program.number) {
             Some(input) => {
-                let test = AskTest::IsSettled {
-                    doors: self.doors.as_slice(),
-                    rank: self.rank(program.number),
-                    input,
-                };
-                is_high(priority, program) && test.holds_for(program.points.as_slice())
+                let rank = self.rank(program.number);
+                is_high(priority, program) && self.may_ask_all(rank, input, program)
             }
             None => true,
         }
     }
 
+    /// Whether a thread answers at a door, if that is its input.
+    fn answers_door(&self, found: &[Answered], thread: u32, door: &Door) -> bool
+        ensures { result ≡ answers_door self.now found.now thread door.now }
+    {
+        if !is_input(door.endpoint, self.input(thread)) {
+            return true;
+        }
+        match door.answers {
+            Some(badge) => answers_at(found, thread, badge),
+            None => true,
+        }
+    }
+
+    /// Whether it answers at each door that is its input.
+    fn answers_doors(&self, found: &[Answered], thread: u32) -> bool
+        ensures { result ≡ list_all (answers_door self.now found.now thread) self.now.doors.items }
+    {
+        self.doors
+            .iter()
+            .all(|door| self.answers_door(found, thread, door))
+    }
+
     /// Whether a thread receives from doors that answer as it may, and answers there.
-    fn keeps_doors(&self, program: &ProgramView) -> bool
-        ensures { result ≡ keeps_doors self.now program.now }
+    fn keeps_doors(&self, found: &[Answered], program: &Outline) -> bool
+        ensures { result ≡ keeps_doors self.now found.now program.now }
     {
         let doors = self.doors.as_slice();
         let input = self.input(program.number);
-        let points = program.points.as_slice();
         let test = AskTest::KeepsDoors {
             doors,
             rank: self.rank(program.number),
             input,
         };
-        let answer = EdgeTest::KeepsOwing {
-            settled: self,
-            thread: program.number,
-        };
-        test.holds_for(points)
-            && (!must_answer(doors, input) || answer.holds_for(program.header.base, points))
+        test.holds_for(program) && self.answers_doors(found, program.number)
     }
 
     /// Whether each thread asks only what it may, if it is settled.
-    fn ask_as_settled(&self, priority: u32, programs: &[ProgramView]) -> bool
+    fn ask_as_settled(&self, priority: u32, programs: &[Outline]) -> bool
         ensures { result ≡ list_all (is_settled priority self.now) programs.now }
     {
         programs
@@ -142,23 +141,30 @@ impl Settled {
     }
 
     /// Whether each thread receives from doors that answer as it may, and answers there.
-    fn all_keep_doors(&self, programs: &[ProgramView]) -> bool
-        ensures { result ≡ list_all (keeps_doors self.now) programs.now }
+    fn all_keep_doors(&self, found: &[Answered], programs: &[Outline]) -> bool
+        ensures { result ≡ list_all (keeps_doors self.now found.now) programs.now }
     {
-        programs.iter().all(|program| self.keeps_doors(program))
+        programs
+            .iter()
+            .all(|program| self.keeps_doors(found, program))
     }
 
     /// Whether the threads are settled.
-    pub(crate) fn are_settled(&self, priority: u32, programs: &[ProgramView]) -> bool
-        ensures { result ≡ are_settled priority self.now programs.now }
+    pub(crate) fn are_settled(
+        &self,
+        priority: u32,
+        found: &[Answered],
+        programs: &[Outline],
+    ) -> bool
+        ensures { result ≡ are_settled priority self.now found.now programs.now }
     {
         self.ask_as_settled(priority, programs)
             && self.have_takers(programs)
-            && self.all_keep_doors(programs)
+            && self.all_keep_doors(found, programs)
     }
 
     /// Whether an object is the input of one of them.
-    fn is_input_there(&self, programs: &[ProgramView], object: u32) -> bool
+    fn is_input_there(&self, programs: &[Outline], object: u32) -> bool
         ensures { result ≡ is_input_there self.now programs.now object }
     {
         programs
@@ -167,7 +173,7 @@ impl Settled {
     }
 
     /// Whether each of these is.
-    pub(crate) fn are_inputs(&self, programs: &[ProgramView], objects: &[u32]) -> bool
+    pub(crate) fn are_inputs(&self, programs: &[Outline], objects: &[u32]) -> bool
         ensures { result ≡ list_all (is_input_there self.now programs.now) objects.now }
     {
         objects

@@ -1,108 +1,43 @@
-//! Finds the settled threads of a level: round after round those whose messages are taken by who was found before. What is found is tested apart, so
+//! Finds the settled threads of a level: one after another those whose messages are taken by who was found before. What is found is tested apart, so
 //! nothing is promised of it here.
 
-use crate::asks::{Ask, ask_of};
 use crate::doors::Door;
-use crate::finding::taken_by;
-use crate::owing::{answers_always, owing_of};
-use crate::settled::{Settled, mark_at};
+use crate::outlines::Outline;
+use crate::settled::Settled;
 use crate::sums::is_high;
-use program_rules::{PointView, ProgramView};
+use crate::threads::{Manner, Threads};
 use std::alloc::{AllocError, Global};
-
-/// How many rounds there are at most: so deep is the longest chain of calls that is followed.
-const ROUNDS: u32 = 256;
 
 /// Of a thread that is not found to be settled.
 const UNRANKED: u32 = u32::MAX;
 
-/// An endpoint, and who receives there.
+/// No image has as many threads.
+const LIMIT: u32 = 1 << 16;
+
+/// What is known of an endpoint.
 #[derive(Clone, Copy)]
 struct Gate {
     endpoint: u32,
     is_polled: bool,
-    /// Some thread receives there that is not found, or does not always answer.
-    has_others: bool,
+    /// How many threads receive there that are not found.
+    others: usize,
     /// The least and the greatest rank of those that were found.
     first: u32,
     last: u32,
 }
 
-/// A point of a thread at which it sends to a gate, or calls it: both by their places.
-#[derive(Clone, Copy)]
-struct Sender {
-    thread: usize,
-    gate: usize,
-    calls: bool,
-}
-
-/// A point of a thread at which it receives at a gate.
-#[derive(Clone, Copy)]
-struct Receiver {
-    thread: usize,
-    gate: usize,
-}
-
-/// What is known so far: of threads by their places, which are their numbers.
+/// What is known so far.
 #[derive(Drop)]
-struct Search {
+struct Search<'t> {
+    threads: &'t Threads,
     inputs: Vec<Option<u32>>,
     ranks: Vec<u32>,
-    answers: Vec<bool>,
-    owing: Vec<Vec<bool>>,
+    /// By their endpoints.
     gates: Vec<Gate>,
-    senders: Vec<Sender>,
-    receivers: Vec<Receiver>,
-}
-
-impl Gate {
-    /// One of which nothing is known.
-    fn new(endpoint: u32) -> Self {
-        Gate {
-            endpoint,
-            is_polled: false,
-            has_others: false,
-            first: UNRANKED,
-            last: 0,
-        }
-    }
-
-    /// Whether what comes there is taken, and if it is a call, answered.
-    fn is_open(&self, calls: bool) -> bool {
-        self.first != UNRANKED && !(calls && (self.is_polled || self.has_others))
-    }
-
-    /// The same gate before it is known who receives there.
-    fn renewed(&self) -> Self {
-        let mut gate = Gate::new(self.endpoint);
-        gate.is_polled = self.is_polled;
-        gate
-    }
-
-    /// The same with one that receives there.
-    fn with(&self, rank: u32, answers: bool) -> Self {
-        let is_found = rank != UNRANKED;
-        Gate {
-            endpoint: self.endpoint,
-            is_polled: self.is_polled,
-            has_others: self.has_others || !is_found || !answers,
-            first: self.first.min(rank),
-            last: if is_found {
-                self.last.max(rank)
-            } else {
-                self.last
-            },
-        }
-    }
-
-    /// The gate as a door for those that come after this rank.
-    fn door(&self, rank: u32, answers: bool) -> Door {
-        Door {
-            endpoint: self.endpoint,
-            rank: rank.saturating_add(1),
-            answers,
-        }
-    }
+    /// Of each thread: how many of its sends and calls are of gates that are not open to them.
+    held: Vec<usize>,
+    /// Threads that are held by none, and are not found yet.
+    ready: Vec<usize>,
 }
 
 /// The rank at a place.
@@ -113,175 +48,160 @@ fn rank_at(ranks: &[u32], place: usize) -> u32 {
     }
 }
 
-/// The gate at a place, or one at which nobody receives.
-fn gate_at(gates: &[Gate], place: usize) -> Gate {
-    match gates.get(place) {
-        Some(gate) => *gate,
-        None => Gate::new(0),
-    }
-}
-
-/// The object from which a program takes, if it takes from one alone.
-fn input_of(program: &ProgramView) -> Option<u32> {
-    let mut input = None;
-    for view in program.points.as_slice() {
-        if let Some(object) = taken_by(view) {
-            match input {
-                None => input = Some(object),
-                Some(other) => {
-                    if other != object {
-                        return None;
-                    }
-                }
-            }
+impl Gate {
+    /// One of which nothing is known.
+    fn new(endpoint: u32) -> Self {
+        Gate {
+            endpoint,
+            is_polled: false,
+            others: 0,
+            first: UNRANKED,
+            last: 0,
         }
     }
-    input
+
+    /// The gate as a door for those that come after this rank.
+    fn door(&self, rank: u32, answers: Option<u32>) -> Door {
+        Door {
+            endpoint: self.endpoint,
+            rank: rank.saturating_add(1),
+            answers,
+        }
+    }
 }
 
-impl Search {
-    /// What is seen of the threads.
-    fn new(alloc: Global, programs: &[ProgramView], priority: u32) -> Result<Self, AllocError> {
+impl<'t> Search<'t> {
+    /// What is known of the threads of a level by themselves.
+    fn new(
+        alloc: Global,
+        threads: &'t Threads,
+        programs: &[Outline],
+        priority: u32,
+    ) -> Result<Self, AllocError> {
         let mut search = Search {
+            threads,
             inputs: Vec::new(alloc),
             ranks: Vec::new(alloc),
-            answers: Vec::new(alloc),
-            owing: Vec::new(alloc),
             gates: Vec::new(alloc),
-            senders: Vec::new(alloc),
-            receivers: Vec::new(alloc),
+            held: Vec::new(alloc),
+            ready: Vec::new(alloc),
         };
-        for thread in 0..programs.len() {
-            search.note_thread(alloc, &programs[thread], priority)?;
-            search.note_points(thread, &programs[thread])?;
+        for (thread, program) in programs.iter().enumerate() {
+            let input = match threads.inputs.get(thread) {
+                Some(input) if is_high(priority, program) => *input,
+                _ => None,
+            };
+            search.inputs.push(input)?;
+            search.ranks.push(UNRANKED)?;
+            search.held.push(0)?;
         }
+        search.note_uses()?;
+        search.begin()?;
         Ok(search)
     }
 
-    /// Notes what is known of a thread by itself.
-    fn note_thread(
-        &mut self,
-        alloc: Global,
-        program: &ProgramView,
-        priority: u32,
-    ) -> Result<(), AllocError> {
-        let input = if is_high(priority, program) {
-            input_of(program)
-        } else {
-            None
+    /// Notes what is asked of endpoints.
+    fn note_uses(&mut self) -> Result<(), AllocError> {
+        for used in &self.threads.uses {
+            let is_new = match self.gates.last() {
+                Some(gate) => gate.endpoint != used.endpoint,
+                None => true,
+            };
+            if is_new {
+                self.gates.push(Gate::new(used.endpoint))?;
+            }
+            match used.manner {
+                Manner::Receives => self.note_gate(false, 1),
+                Manner::Polls => self.note_gate(true, 0),
+                Manner::Sends | Manner::Calls => self.hold(used.thread),
+            }
+        }
+        Ok(())
+    }
+
+    /// Notes that somebody polls at the last gate, or that so many more receive there.
+    fn note_gate(&mut self, polls: bool, more: usize) {
+        if let Some(gate) = self.gates.last_mut() {
+            gate.is_polled = gate.is_polled || polls;
+            gate.others = gate.others.saturating_add(more);
+        }
+    }
+
+    /// Notes that a thread is held by one gate more.
+    fn hold(&mut self, thread: usize) {
+        if thread < self.held.len() {
+            self.held[thread] = self.held[thread].saturating_add(1);
+        }
+    }
+
+    /// Begins with the threads that neither send nor call.
+    fn begin(&mut self) -> Result<(), AllocError> {
+        for thread in 0..self.held.len() {
+            if self.held.get(thread) == Some(&0) {
+                self.make_ready(thread)?;
+            }
+        }
+        Ok(())
+    }
+
+    /// A thread is held by no gate: it is to be found if it has an input.
+    fn make_ready(&mut self, thread: usize) -> Result<(), AllocError> {
+        if thread < self.inputs.len() && self.inputs[thread].is_some() {
+            self.ready.push(thread)?;
+        }
+        Ok(())
+    }
+
+    /// Gives a thread its rank, and opens the gates that this opens.
+    fn find(&mut self, thread: usize, rank: u32) -> Result<(), AllocError> {
+        if thread < self.ranks.len() {
+            self.ranks[thread] = rank;
+        }
+        if let Some(Some(object)) = self.inputs.get(thread) {
+            let object = *object;
+            if let Ok(place) = self
+                .gates
+                .binary_search_by_key(&object, |gate| gate.endpoint)
+            {
+                return self.receive(place, rank);
+            }
+        }
+        Ok(())
+    }
+
+    /// A thread of this rank receives at a gate.
+    fn receive(&mut self, place: usize, rank: u32) -> Result<(), AllocError> {
+        let Some(gate) = self.gates.get_mut(place) else {
+            return Ok(());
         };
-        let owing = owing_of(alloc, program)?;
-        self.inputs.push(input)?;
-        self.ranks.push(UNRANKED)?;
-        self.answers
-            .push(answers_always(program, owing.as_slice()))?;
-        self.owing.push(owing)?;
-        Ok(())
-    }
-
-    /// Notes what its points ask of endpoints.
-    fn note_points(&mut self, thread: usize, program: &ProgramView) -> Result<(), AllocError> {
-        for view in program.points.as_slice() {
-            if let PointView::Seen(seen) = view {
-                self.note_ask(thread, ask_of(seen))?;
-            }
+        let is_first = gate.first == UNRANKED;
+        gate.first = gate.first.min(rank);
+        gate.last = gate.last.max(rank);
+        gate.others = gate.others.saturating_sub(1);
+        let may_be_called = gate.others == 0 && !gate.is_polled;
+        let endpoint = gate.endpoint;
+        if is_first {
+            self.open(endpoint, Manner::Sends)?;
+        }
+        if may_be_called {
+            self.open(endpoint, Manner::Calls)?;
         }
         Ok(())
     }
 
-    /// Notes what a point asks of an endpoint.
-    fn note_ask(&mut self, thread: usize, ask: Ask) -> Result<(), AllocError> {
-        match ask {
-            Ask::Accepts { endpoint, .. } => {
-                let gate = self.gate_of(endpoint)?;
-                self.receivers.push(Receiver { thread, gate })?;
-                Ok(())
+    /// Who sends to an endpoint, or calls it and is answered, is no more held by that.
+    fn open(&mut self, endpoint: u32, manner: Manner) -> Result<(), AllocError> {
+        for used in self.threads.uses_of(endpoint) {
+            let is_let_in = used.manner == manner && (manner == Manner::Sends || used.is_answered);
+            if is_let_in && used.thread < self.held.len() {
+                let held = self.held[used.thread].saturating_sub(1);
+                self.held[used.thread] = held;
+                if held == 0 {
+                    self.make_ready(used.thread)?;
+                }
             }
-            Ask::Looks(endpoint) => {
-                let gate = self.gate_of(endpoint)?;
-                self.note_poll(gate);
-                Ok(())
-            }
-            Ask::SendsTo(endpoint) => self.note_sender(thread, endpoint, false),
-            Ask::Calls(endpoint) => self.note_sender(thread, endpoint, true),
-            _ => Ok(()),
         }
-    }
-
-    /// Notes that a thread sends to an endpoint, or calls it.
-    fn note_sender(&mut self, thread: usize, endpoint: u32, calls: bool) -> Result<(), AllocError> {
-        let gate = self.gate_of(endpoint)?;
-        self.senders.push(Sender {
-            thread,
-            gate,
-            calls,
-        })?;
         Ok(())
-    }
-
-    /// Notes that somebody polls at a gate.
-    fn note_poll(&mut self, place: usize) {
-        if place < self.gates.len() {
-            let mut gate = self.gates[place];
-            gate.is_polled = true;
-            self.gates[place] = gate;
-        }
-    }
-
-    /// The place of the gate of an endpoint.
-    fn gate_of(&mut self, endpoint: u32) -> Result<usize, AllocError> {
-        for place in 0..self.gates.len() {
-            if self.gates[place].endpoint == endpoint {
-                return Ok(place);
-            }
-        }
-        let place = self.gates.len();
-        self.gates.push(Gate::new(endpoint))?;
-        Ok(place)
-    }
-
-    /// Looks again who receives at the gates.
-    fn renew_gates(&mut self) {
-        for place in 0..self.gates.len() {
-            let gate = self.gates[place];
-            self.gates[place] = gate.renewed();
-        }
-        for receiver in &self.receivers {
-            if receiver.gate < self.gates.len() {
-                let rank = rank_at(self.ranks.as_slice(), receiver.thread);
-                let answers = mark_at(self.answers.as_slice(), receiver.thread);
-                let gate = self.gates[receiver.gate];
-                self.gates[receiver.gate] = gate.with(rank, answers);
-            }
-        }
-    }
-
-    /// Which threads are not held up by what they send or call.
-    fn free_threads(&self, alloc: Global) -> Result<Vec<bool>, AllocError> {
-        let mut free = Vec::new(alloc);
-        free.resize(self.ranks.len(), true)?;
-        for sender in &self.senders {
-            let gate = gate_at(self.gates.as_slice(), sender.gate);
-            if sender.thread < free.len() && !gate.is_open(sender.calls) {
-                free[sender.thread] = false;
-            }
-        }
-        Ok(free)
-    }
-
-    /// Gives this rank to each thread that is found now, and whether there is one.
-    fn pass(&mut self, alloc: Global, rank: u32) -> Result<bool, AllocError> {
-        self.renew_gates();
-        let free = self.free_threads(alloc)?;
-        let mut found = false;
-        for thread in 0..self.ranks.len() {
-            let is_candidate = thread < self.inputs.len() && self.inputs[thread].is_some();
-            if is_candidate && self.ranks[thread] == UNRANKED && mark_at(free.as_slice(), thread) {
-                self.ranks[thread] = rank;
-                found = true;
-            }
-        }
-        Ok(found)
     }
 
     /// Leaves inputs to those alone that were found.
@@ -293,56 +213,49 @@ impl Search {
         }
     }
 
-    /// To which gates threads that were found send, or which they call.
-    fn used_gates(&self, alloc: Global, calls: bool) -> Result<Vec<bool>, AllocError> {
-        let mut used = Vec::new(alloc);
-        used.resize(self.gates.len(), false)?;
-        for sender in &self.senders {
-            let is_found = rank_at(self.ranks.as_slice(), sender.thread) != UNRANKED;
-            if is_found && sender.calls == calls && sender.gate < used.len() {
-                used[sender.gate] = true;
-            }
-        }
-        Ok(used)
-    }
-
-    /// The doors of those that were found.
+    /// The doors to which those send that were found, and which they call, one for each badge.
     fn doors(&self, alloc: Global) -> Result<Vec<Door>, AllocError> {
-        let sent_to = self.used_gates(alloc, false)?;
-        let called = self.used_gates(alloc, true)?;
         let mut doors = Vec::new(alloc);
-        for place in 0..self.gates.len() {
-            let gate = self.gates[place];
-            if mark_at(sent_to.as_slice(), place) {
-                doors.push(gate.door(gate.first, false))?;
+        for gate in &self.gates {
+            let mut sends = false;
+            let mut called = None;
+            for used in self.threads.uses_of(gate.endpoint) {
+                if rank_at(self.ranks.as_slice(), used.thread) == UNRANKED {
+                    continue;
+                }
+                sends = sends || used.manner == Manner::Sends;
+                if used.manner == Manner::Calls && called != Some(used.badge) {
+                    called = Some(used.badge);
+                    doors.push(gate.door(gate.last, called))?;
+                }
             }
-            if mark_at(called.as_slice(), place) {
-                doors.push(gate.door(gate.last, true))?;
+            if sends {
+                doors.push(gate.door(gate.first, None))?;
             }
         }
         Ok(doors)
     }
 }
 
-/// The settled threads of a level: as many as are found. Memory may be refused.
+/// The settled threads of a level: as many as there are. Memory may be refused.
 pub(crate) fn settled_for(
     alloc: Global,
-    programs: &[ProgramView],
+    programs: &[Outline],
+    threads: &Threads,
     priority: u32,
 ) -> Result<Settled, AllocError> {
-    let mut search = Search::new(alloc, programs, priority)?;
-    for rank in 0..ROUNDS {
-        if !search.pass(alloc, rank)? {
+    let mut search = Search::new(alloc, threads, programs, priority)?;
+    for rank in 0..LIMIT {
+        let Some(thread) = search.ready.pop() else {
             break;
-        }
+        };
+        search.find(thread, rank)?;
     }
-    search.renew_gates();
     search.drop_others();
     let doors = search.doors(alloc)?;
     Ok(Settled {
         inputs: search.inputs,
         ranks: search.ranks,
         doors,
-        owing: search.owing,
     })
 }

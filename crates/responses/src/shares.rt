@@ -1,8 +1,8 @@
 //! What a bound is made of: what may be left at rest, and what comes meanwhile.
 
-use crate::bounds::{Bound, Rate};
+use crate::bounds::{Basis, Bound, Rate};
 use crate::lines::LINES;
-use crate::sums::{is_open, price_of_line};
+use crate::sums::price_of_line;
 use crate::systems::Levels;
 use crate::weights::is_one_of;
 use std::alloc::{AllocError, Global};
@@ -52,6 +52,32 @@ impl Shares {
         }
         total
     }
+
+    /// Puts what may be left at rest.
+    fn put_rest(
+        &mut self,
+        levels: &Levels<'_, '_>,
+        basis: &Basis,
+        tended: &[u32],
+    ) -> Result<(), AllocError> {
+        for price in basis.weights.prices.all() {
+            if !is_one_of(basis.taken.as_slice(), price.object) {
+                let object = price.object;
+                self.put(Reason::LeftAt { object }, price.price)?;
+            }
+        }
+        for line in 0..LINES {
+            if !is_one_of(tended, line) {
+                let cost = price_of_line(&basis.weights, levels.bells.as_slice(), line);
+                self.put(Reason::Pending { line }, cost)?;
+            }
+        }
+        for (thread, owed) in basis.owed.iter().enumerate() {
+            let thread = u32::try_from(thread).unwrap_or(u32::MAX);
+            self.put(Reason::WaitsWith { thread }, *owed)?;
+        }
+        Ok(())
+    }
 }
 
 /// How many interrupts come within so many steps at a rate.
@@ -62,51 +88,25 @@ fn times_within(rate: &Rate, steps: u64) -> u64 {
     rate.burst.saturating_add(steps / rate.period)
 }
 
-impl Bound {
-    /// Puts what may be left at rest.
-    fn put_rest(&self, levels: &Levels<'_, '_>, shares: &mut Shares) -> Result<(), AllocError> {
-        for price in &self.weights.prices {
-            if !is_one_of(self.taken.as_slice(), price.object) {
-                let object = price.object;
-                shares.put(Reason::LeftAt { object }, price.price)?;
-            }
-        }
-        for line in 0..LINES {
-            if !is_open(self.tended.as_slice(), line) {
-                let cost = price_of_line(&self.weights, levels.bells.as_slice(), line);
-                shares.put(Reason::Pending { line }, cost)?;
-            }
-        }
-        for (thread, owed) in self.owed.iter().enumerate() {
-            let thread = u32::try_from(thread).unwrap_or(u32::MAX);
-            shares.put(Reason::WaitsWith { thread }, *owed)?;
-        }
-        Ok(())
+/// What a bound is made of once the level has rested, at the rates that it was found for: all shares together are `later`. Memory may be refused.
+pub(crate) fn shares_of(
+    alloc: Global,
+    levels: &Levels<'_, '_>,
+    basis: &Basis,
+    bound: &Bound,
+    rates: &[Rate],
+) -> Result<Vec<Share>, AllocError> {
+    let mut shares = Shares {
+        shares: Vec::new(alloc),
+    };
+    shares.put_rest(levels, basis, bound.tended.as_slice())?;
+    let below = basis.most_at_rest.saturating_sub(shares.total());
+    shares.put(Reason::FromBelow, below)?;
+    for rate in rates {
+        let line = rate.line;
+        let times = times_within(rate, bound.later);
+        let cost = price_of_line(&basis.weights, levels.bells.as_slice(), line);
+        shares.put(Reason::Comes { line, times }, times.saturating_mul(cost))?;
     }
-
-    /// What the bound is made of once the level has rested, at the rates that it was found for: all shares together are `later`.
-    ///
-    /// # Errors
-    ///
-    /// Memory may be refused.
-    pub fn shares(
-        &self,
-        alloc: Global,
-        levels: &Levels<'_, '_>,
-        rates: &[Rate],
-    ) -> Result<Vec<Share>, AllocError> {
-        let mut shares = Shares {
-            shares: Vec::new(alloc),
-        };
-        self.put_rest(levels, &mut shares)?;
-        let below = self.most_at_rest.saturating_sub(shares.total());
-        shares.put(Reason::FromBelow, below)?;
-        for rate in rates {
-            let line = rate.line;
-            let times = times_within(rate, self.later);
-            let cost = price_of_line(&self.weights, levels.bells.as_slice(), line);
-            shares.put(Reason::Comes { line, times }, times.saturating_mul(cost))?;
-        }
-        Ok(shares.shares)
-    }
+    Ok(shares.shares)
 }

@@ -1,14 +1,14 @@
 //! What a price is made of: which threads run for how long, and through what.
 
-use crate::asks::{Ask, ask_of};
-use crate::edge_checks::point_at;
-use crate::finding::PlacedPoint;
+use crate::asks::Ask;
+use crate::bounds::PlacedPoint;
+use crate::outlines::{Outline, Run};
 use crate::sums::is_high;
+use crate::systems::Levels;
 use crate::weights::Weights;
-use program_rules::{PointView, ProgramView, SeenPoint};
 use std::alloc::{AllocError, Global};
 
-/// How many stretches are told at most.
+/// How many stretches are said at most.
 const MOST: usize = 64;
 
 /// What lets a thread run.
@@ -20,7 +20,7 @@ pub enum Cause {
     SetGoing { by: PlacedPoint, how: How },
     /// Its own Send or Call at this point is over.
     GoesOn { from: PlacedPoint, how: How },
-    /// All that is not told.
+    /// All that is not said.
     Further,
 }
 
@@ -40,52 +40,48 @@ pub struct Stretch {
     pub steps: u64,
 }
 
-/// What is still to be told: the price of an object, and through what it is set going.
+/// How many runs are looked at for one line at most.
+const LOOKS: usize = 4096;
+
+/// What is still to be said: the price of an object, and through what it is set going.
 #[derive(Clone, Copy)]
 struct Rung {
     object: u32,
     cause: Cause,
 }
 
-/// A way on from a point: what is asked there, and the point after it.
+/// A way on from a run: what is asked there, and the run after it.
 #[derive(Clone, Copy)]
 struct Way {
-    here: usize,
+    point: u32,
     ask: Ask,
     next: usize,
 }
 
 /// Stretches so far.
 #[derive(Drop)]
-struct Telling<'p, 'w> {
+struct Saying<'w, 'l, 'i, 'a> {
     alloc: Global,
-    programs: &'p [ProgramView],
+    levels: &'l Levels<'i, 'a>,
     weights: &'w Weights,
     priority: u32,
     stretches: Vec<Stretch>,
     rung: Vec<Rung>,
+    /// How many runs may still be looked at.
+    looks: usize,
 }
 
-/// The points to which a point leads.
-fn ways_from(base: u32, seen: &SeenPoint) -> [Option<usize>; 2] {
+/// The runs to which a run leads.
+fn ways_from(run: &Run) -> [Option<usize>; 2] {
     let to = |way: Option<u32>| match way {
-        Some(address) => Some(point_at(base, address)),
+        Some(place) => Some(place as usize),
         None => None,
     };
-    [to(seen.taken), to(seen.next)]
+    [to(run.taken), to(run.next)]
 }
 
-/// Marks a point, and whether it was not marked.
-fn mark(marks: &mut [bool], point: usize) -> bool {
-    if point < marks.len() && !marks[point] {
-        marks[point] = true;
-        return true;
-    }
-    false
-}
-
-impl Telling<'_, '_> {
-    /// What a thread with this budget sets going at a point that asks this.
+impl Saying<'_, '_, '_, '_> {
+    /// What a thread with this budget sets going at a run that asks this.
     fn cost_of(&self, budget: u64, ask: Ask) -> u64 {
         match ask {
             Ask::Rings(object) | Ask::Tries(object) => self.weights.price_of(object),
@@ -96,31 +92,33 @@ impl Telling<'_, '_> {
         }
     }
 
-    /// The ways from a point that ask for all that is still to be set going there: one that costs something, or else points to go on from.
+    /// The ways from a run that ask for all that is still to be set going there: one that costs something, or else runs to go on from.
     fn dear_way(
         &self,
-        program: &ProgramView,
+        program: &Outline,
         here: usize,
         still: u64,
         open: &mut Vec<usize>,
-        marks: &mut [bool],
     ) -> Result<Option<Way>, AllocError> {
-        let Some(PointView::Seen(seen)) = program.points.get(here) else {
+        let Some(run) = program.runs.get(here) else {
             return Ok(None);
         };
-        let ask = ask_of(seen);
-        if matches!(ask, Ask::Takes(_) | Ask::Accepts { .. }) {
+        if let Ask::Takes(_) | Ask::Accepts { .. } = run.ask {
             return Ok(None);
         }
-        let cost = self.cost_of(program.header.budget, ask);
-        for way in ways_from(program.header.base, seen) {
+        let cost = self.cost_of(program.header.budget, run.ask);
+        for way in ways_from(run) {
             if let Some(next) = way {
                 let after = self.weights.still(program.number, next);
                 if cost.saturating_add(after) == still {
                     if cost != 0 {
-                        return Ok(Some(Way { here, ask, next }));
+                        return Ok(Some(Way {
+                            point: run.point,
+                            ask: run.ask,
+                            next,
+                        }));
                     }
-                    if mark(marks, next) {
+                    if !open.contains(&next) {
                         open.push(next)?;
                     }
                 }
@@ -129,18 +127,23 @@ impl Telling<'_, '_> {
         Ok(None)
     }
 
-    /// The first way from a point on that sets something going, on one that asks for all that is still to be.
-    fn first_way(&self, program: &ProgramView, from: usize) -> Result<Option<Way>, AllocError> {
+    /// The first way from a run on that sets something going, on one that asks for all that is still to be.
+    fn first_way(&mut self, program: &Outline, from: usize) -> Result<Option<Way>, AllocError> {
         let still = self.weights.still(program.number, from);
-        let mut marks = Vec::new(self.alloc);
-        marks.resize(program.points.len(), false)?;
+        if still == 0 {
+            return Ok(None);
+        }
         let mut open = Vec::new(self.alloc);
         open.push(from)?;
-        for _ in 0..program.points.len() {
-            let Some(here) = open.pop() else {
-                return Ok(None);
-            };
-            let found = self.dear_way(program, here, still, &mut open, marks.as_mut_slice())?;
+        let mut place = 0;
+        for _ in 0..self.looks {
+            if open.len() <= place {
+                break;
+            }
+            self.looks = self.looks.saturating_sub(open.len());
+            let here = open[place];
+            place += 1;
+            let found = self.dear_way(program, here, still, &mut open)?;
             if found.is_some() {
                 return Ok(found);
             }
@@ -148,11 +151,11 @@ impl Telling<'_, '_> {
         Ok(None)
     }
 
-    /// Notes what the way from a point sets going.
-    fn note(&mut self, program: &ProgramView, way: &Way) -> Result<(), AllocError> {
+    /// Notes what a way sets going.
+    fn note(&mut self, program: &Outline, way: &Way) -> Result<(), AllocError> {
         let at = PlacedPoint {
             thread: program.number,
-            point: u32::try_from(way.here).unwrap_or(u32::MAX),
+            point: way.point,
         };
         match way.ask {
             Ask::Rings(object) => self.ring(object, at, How::Rung),
@@ -175,7 +178,7 @@ impl Telling<'_, '_> {
     /// Notes what comes to an endpoint, and that the thread goes on after that.
     fn go_on(
         &mut self,
-        program: &ProgramView,
+        program: &Outline,
         object: u32,
         from: PlacedPoint,
         how: How,
@@ -189,8 +192,8 @@ impl Telling<'_, '_> {
         Ok(())
     }
 
-    /// Tells what a thread sets going from a point on.
-    fn walk(&mut self, program: &ProgramView, from: usize) -> Result<(), AllocError> {
+    /// Says what a thread sets going from a run on.
+    fn walk(&mut self, program: &Outline, from: usize) -> Result<(), AllocError> {
         let mut from = from;
         for _ in 0..MOST {
             let Some(way) = self.first_way(program, from)? else {
@@ -202,98 +205,91 @@ impl Telling<'_, '_> {
         Ok(())
     }
 
-    /// The point after one at which a thread takes from an object, where that costs as much as the object's price.
-    fn point_after(&self, program: &ProgramView, object: u32) -> Option<usize> {
-        let price = self.weights.price_of(object);
-        for view in &program.points {
-            if let PointView::Seen(seen) = view {
-                if takes_from(ask_of(seen), object) {
-                    for way in ways_from(program.header.base, seen) {
-                        if let Some(next) = way {
-                            let still = self.weights.still(program.number, next);
-                            if program.header.budget.saturating_add(still) == price {
-                                return Some(next);
-                            }
-                        }
-                    }
+    /// The run after one at which a thread takes, where that costs as much as the price.
+    fn run_after(&self, program: &Outline, run: &Run, price: u64) -> Option<usize> {
+        for way in ways_from(run) {
+            if let Some(next) = way {
+                let still = self.weights.still(program.number, next);
+                if program.header.budget.saturating_add(still) == price {
+                    return Some(next);
                 }
             }
         }
         None
     }
 
-    /// Tells who takes from an object, and what that thread sets going.
+    /// Says who takes from an object, and what that thread sets going.
     fn follow(&mut self, rung: Rung) -> Result<(), AllocError> {
-        for program in self.programs {
-            if is_high(self.priority, program) {
-                if let Some(from) = self.point_after(program, rung.object) {
-                    self.stretches.push(Stretch {
-                        thread: program.number,
-                        cause: rung.cause,
-                        steps: program.header.budget,
-                    })?;
-                    return self.walk(program, from);
-                }
+        let levels = self.levels;
+        let price = self.weights.price_of(rung.object);
+        for taker in levels.threads.takers_of(rung.object) {
+            self.looks = self.looks.saturating_sub(1);
+            let Some(program) = levels.programs.get(taker.thread) else {
+                continue;
+            };
+            let Some(run) = program.runs.get(taker.place) else {
+                continue;
+            };
+            if self.looks == 0 || !is_high(self.priority, program) {
+                continue;
+            }
+            if let Some(from) = self.run_after(program, run, price) {
+                self.stretches.push(Stretch {
+                    thread: program.number,
+                    cause: rung.cause,
+                    steps: program.header.budget,
+                })?;
+                return self.walk(program, from);
             }
         }
         Ok(())
     }
-}
 
-/// Whether something that is asked takes from an object.
-fn takes_from(ask: Ask, object: u32) -> bool {
-    match ask {
-        Ask::Takes(other) => other == object,
-        Ask::Accepts { endpoint, .. } => endpoint == object,
-        _ => false,
+    /// All stretches, with what is not said of a price.
+    fn finish(self, object: u32) -> Result<Vec<Stretch>, AllocError> {
+        let mut said = 0u64;
+        for stretch in &self.stretches {
+            said = said.saturating_add(stretch.steps);
+        }
+        let price = self.weights.price_of(object);
+        let mut stretches = self.stretches;
+        if said < price {
+            stretches.push(Stretch {
+                thread: 0,
+                cause: Cause::Further,
+                steps: price - said,
+            })?;
+        }
+        Ok(stretches)
     }
 }
 
 /// What the price of an object of a level is made of. Memory may be refused.
 pub(crate) fn stretches_of(
     alloc: Global,
-    programs: &[ProgramView],
+    levels: &Levels<'_, '_>,
     weights: &Weights,
     priority: u32,
     object: u32,
 ) -> Result<Vec<Stretch>, AllocError> {
-    let mut telling = Telling {
+    let mut saying = Saying {
         alloc,
-        programs,
+        levels,
         weights,
         priority,
         stretches: Vec::new(alloc),
         rung: Vec::new(alloc),
+        looks: LOOKS,
     };
-    telling.rung.push(Rung {
+    saying.rung.push(Rung {
         object,
         cause: Cause::Taken { object },
     })?;
     for _ in 0..MOST {
-        let Some(rung) = telling.rung.pop() else {
+        let Some(rung) = saying.rung.pop() else {
             break;
         };
-        telling.follow(rung)?;
+        saying.follow(rung)?;
     }
-    telling.finish(object)
-}
-
-impl Telling<'_, '_> {
-    /// All stretches, with what is not told of a price.
-    fn finish(self, object: u32) -> Result<Vec<Stretch>, AllocError> {
-        let mut told = 0u64;
-        for stretch in &self.stretches {
-            told = told.saturating_add(stretch.steps);
-        }
-        let price = self.weights.price_of(object);
-        let mut stretches = self.stretches;
-        if told < price {
-            stretches.push(Stretch {
-                thread: 0,
-                cause: Cause::Further,
-                steps: price - told,
-            })?;
-        }
-        Ok(stretches)
-    }
+    saying.finish(object)
 }

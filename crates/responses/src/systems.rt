@@ -1,32 +1,38 @@
 //! The threads and lines of an accepted image, as the test of a response reads them.
 
-ghost use Rattle.std.specs.Prelude.{◌≡◌, IfErr, IfOk, IfSome, map, true};
+ghost use Rattle.std.specs.Prelude.{◌≡◌, IfErr, IfOk, map, true};
 ghost use Rattle.model.specs.declared.refusals.Refusal.TheVariants.{OutOfMemory};
-ghost use Rattle.std.specs.List.{list_all};
-ghost use Rattle.response.specs.Owed.{rest_with};
-ghost use Rattle.response.specs.Responding.{is_acknowledged};
-ghost use Rattle.settled_threads.specs.Tested.{passes_settled, passes_settled_rested};
-ghost use Rattle.responses.specs.Found.{number_at, open_line, rate_of, response_of};
-ghost use Rattle.responses.specs.Settling.{settlement_of};
+ghost use Rattle.responses.specs.Bounds.{IsTested};
+ghost use Rattle.responses.specs.Found.{rate_of};
 
-use crate::checks::{Claim, Sums, acknowledge_all};
+use crate::answers::answers_in;
+use crate::bounds::Numbers;
+use crate::checks::{Claim, Sums};
+use crate::keepers::{Keeper, keepers_of};
 use crate::lines::{Bell, bells_of};
+use crate::outlines::{Outline, outlines_of};
 use crate::sums::{costs_within, left_at_start};
+use crate::threads::Threads;
+use answering::Answered;
 use headline::starts::threads_are_as_listed;
 use image_reading::ImageRef;
 use model::Refusal;
-use program_rules::{ProgramView, views_of_programs};
 use std::alloc::Global;
 use std::marker::Model;
 use thread_spaces::{PlacedImage, offsets_of, programs_have_their_places};
 use verify::Accepted;
 
-/// The threads of an accepted image with what is seen of their programs, and what its lines signal. A clause sees the image.
+/// The threads of an accepted image with what their programs ask, and what its lines signal. A clause sees the image.
 #[derive(Drop)]
 pub struct Levels<'i, 'a> {
     pub(crate) image: &'i ImageRef<'a>,
-    pub(crate) programs: Vec<ProgramView>,
+    pub(crate) programs: Vec<Outline>,
     pub(crate) bells: Vec<Option<Bell>>,
+    /// Who keeps each line.
+    pub(crate) keepers: Vec<Option<Keeper>>,
+    /// Of each thread, by its number: the badges that it answers.
+    pub(crate) answers: Vec<Answered>,
+    pub(crate) threads: Threads,
     /// Of each object, by its number.
     pub(crate) offsets: Vec<u32>,
 }
@@ -35,15 +41,18 @@ impl<'i, 'a> Model for Levels<'i, 'a> {
     ghost use Rattle.std.specs.Prelude.{◌≡◌, true};
     ghost use Rattle.model.specs.Acceptance.Accepted.{IsWellFormed};
     ghost use Rattle.model.specs.Images.Image.{Image, whole_image};
-    ghost use Rattle.program_rules.specs.Views.{AreProgramViews};
+    ghost use Rattle.answering.specs.Answers.{AreAnswers};
+    ghost use Rattle.responses.specs.Keepers.{AreKeepers};
     ghost use Rattle.responses.specs.Lines.{AreBells};
+    ghost use Rattle.responses.specs.Outlines.{AreOutlines};
 
     ghost Value = { Image };
 
     ghost view = { λ l. l.image.now };
 
     ghost invariant = { λ l. IsWellFormed l.image.now × (whole_image.fits l.image.now ≡ true)
-        × AreProgramViews l.image.now 0 l.image.now.threads l.programs.items × AreBells l.image.now l.bells.items };
+        × AreOutlines l.image.now 0 l.image.now.threads l.programs.items × AreBells l.image.now l.bells.items
+        × AreKeepers l.programs.items l.bells.items l.keepers.items × AreAnswers l.image.now l.answers.items };
 }
 
 /// The threads and lines of an accepted image. It takes time as its verification does.
@@ -59,78 +68,80 @@ pub fn levels_of<'i, 'a>(
     ensures memory { IfErr result (λ refusal. refusal ≡ OutOfMemory) }
 {
     let image = accepted.image();
-    let programs = views_of_programs(alloc, image)?;
+    let programs = outlines_of(alloc, image)?;
     let offsets = offsets_of(alloc, image)?;
     let placed = PlacedImage {
         image,
         offsets: &offsets,
     };
     let bells = bells_of(alloc, &placed)?;
+    let keepers = keepers_of(alloc, programs.as_slice(), bells.as_slice())?;
+    let answers = answers_in(alloc, accepted, programs.as_slice())?;
+    let threads = Threads::of(alloc, programs.as_slice(), answers.as_slice())?;
     Ok(Levels {
         image,
         programs,
         bells,
+        keepers,
+        answers,
+        threads,
         offsets,
     })
 }
 
 impl Levels<'_, '_> {
-    /// What may be left where no thread of the level is ready.
-    pub(crate) fn rest(&self, claim: &Claim<'_>) -> Option<u64>
-        ensures { IfSome result (λ rest. rest ≡ rest_with self.now (response_of claim.now.weights.now claim.now.taken.now claim.now.tended.now 0 0)
-            (number_at claim.now.owed.now)) }
-    {
-        claim.rest(self.programs.as_slice(), self.bells.as_slice())
-    }
-
-    /// Whether no more than so much may be left once the level has rested, and with that it runs for no more than so many steps on end.
-    pub(crate) fn holds_rested(&self, claim: &Claim<'_>, most: u64, steps: u64) -> bool
-        ensures { result ≡ true → passes_settled_rested self.now claim.now.priority (map rate_of claim.now.rates.now)
-            (response_of claim.now.weights.now claim.now.taken.now claim.now.tended.now most steps) (settlement_of claim.now.settled.now)
-            (number_at claim.now.owed.now) ≡ true }
-    {
-        let programs = self.programs.as_slice();
-        let bells = self.bells.as_slice();
-        let Some(rest) = self.rest(claim) else {
-            return false;
-        };
-        let Some(costs) = costs_within(claim.weights, bells, claim.rates, steps) else {
-            return false;
-        };
-        if !claim.is_paid(programs, bells) {
-            return false;
-        }
-        claim.fits(programs, bells, &Sums { rest, costs }, most, steps)
-    }
-
-    /// Whether that is so from the start on.
-    pub(crate) fn holds(&self, claim: &Claim<'_>, most: u64, steps: u64) -> bool
-        ensures { result ≡ true → passes_settled self.now claim.now.priority (map rate_of claim.now.rates.now)
-            (response_of claim.now.weights.now claim.now.taken.now claim.now.tended.now most steps) (settlement_of claim.now.settled.now)
-            (number_at claim.now.owed.now) ≡ true }
+    /// Whether what is claimed passes the test with these numbers, from the start and once the level has rested.
+    pub(crate) fn pass(&self, claim: &Claim<'_>, numbers: &Numbers) -> bool
+        ensures { result ≡ true → IsTested self.now claim.now.priority (map rate_of claim.now.rates.now) claim.now.settled.now.inputs.items
+            claim.now.lines.now claim.now.tended.now numbers.now.steps numbers.now.later }
     {
         threads_are_as_listed();
         programs_have_their_places();
-        let Some(left) = left_at_start(claim.weights, claim.priority, self.programs.as_slice())
+        let programs = self.programs.as_slice();
+        let bells = self.bells.as_slice();
+        let keepers = self.keepers.as_slice();
+        let Some(rest) = claim.rest(programs, bells) else {
+            return false;
+        };
+        let Some(first_costs) = costs_within(claim.weights, bells, claim.rates, numbers.steps)
         else {
             return false;
         };
-        if !self.holds_rested(claim, most, steps) {
+        let Some(costs) = costs_within(claim.weights, bells, claim.rates, numbers.later) else {
+            return false;
+        };
+        let Some(left) = left_at_start(claim.weights, claim.priority, programs) else {
+            return false;
+        };
+        if !claim.is_acknowledged(programs, keepers) {
             return false;
         }
-        left <= most
-    }
-
-    /// Whether threads of the level that wait for no message acknowledge lines as it is claimed.
-    pub(crate) fn acknowledges(&self, claim: &Claim<'_>) -> bool
-        ensures { result ≡ true → list_all (is_acknowledged self.now claim.now.priority) (map open_line claim.now.lines.now) ≡ true }
-    {
-        let _ = self.image;
-        acknowledge_all(
-            claim.priority,
-            self.programs.as_slice(),
-            self.bells.as_slice(),
-            claim.lines,
-        )
+        if !claim.is_paid(programs, keepers, self.answers.as_slice()) {
+            return false;
+        }
+        let first = Sums {
+            rest,
+            costs: first_costs,
+        };
+        if !claim.fits(
+            programs,
+            bells,
+            &first,
+            numbers.most_at_first,
+            numbers.steps,
+        ) {
+            return false;
+        }
+        let rested = Sums { rest, costs };
+        if !claim.fits(
+            programs,
+            bells,
+            &rested,
+            numbers.most_at_rest,
+            numbers.later,
+        ) {
+            return false;
+        }
+        left <= numbers.most_at_first
     }
 }

@@ -1,37 +1,22 @@
-//! Weights: what it costs a level that something comes to a notification or an endpoint, and what a thread has still to set going from a point
-//! on to its next wait; and what rests where no thread of the level is ready.
+//! Weights: what it costs a level that something comes to a notification or an endpoint, and what a thread has still to set going from a run
+//! on to its next wait.
 
-ghost use Rattle.std.specs.Prelude.{◌≡◌, ◌==◌, ◌+◌, find, nat_le};
-ghost use Rattle.std.specs.List.{list_any};
+ghost use Rattle.std.specs.Prelude.{◌≡◌, ◌+◌, nat_le};
 ghost use Rattle.std.specs.Option.{option_map_or};
+ghost use Rattle.responses.specs.Asks.{asked};
 ghost use Rattle.responses.specs.Edges.{pays_wholly};
-ghost use Rattle.responses.specs.Found.{number_at, price_in, weights_of};
-ghost use Rattle.responses.specs.Seen.{asked};
+ghost use Rattle.responses.specs.Found.{price_in, weights_of};
+ghost use Rattle.responses.specs.Numbers.{is_among, mark_at, number_at};
 
 use crate::asks::Ask;
-
-/// What it costs, in instructions, that something comes to the notification or endpoint at an offset.
-#[derive(Clone, Copy, Debug)]
-pub struct Price {
-    pub object: u32,
-    pub price: u64,
-}
+use crate::prices::Prices;
 
 /// Of a level of threads.
 #[derive(Drop)]
-pub struct Weights {
-    /// Of the notifications and endpoints from which threads of the level take.
-    pub prices: Vec<Price>,
-    /// Of each thread by its number, and each point: what it has still to set going on its way to the next wait, in instructions.
-    pub still: Vec<Vec<u64>>,
-}
-
-/// A line whose interrupts a thread of the level acknowledges on each way from one take to the next, and the points of the thread before which
-/// it did so on each way from a take on.
-#[derive(Drop)]
-pub struct AcknowledgedLine {
-    pub line: u32,
-    pub marks: Vec<bool>,
+pub(crate) struct Weights {
+    pub(crate) prices: Prices,
+    /// Of each thread by its number, and each run: what it has still to set going on its way to the next wait, in instructions.
+    pub(crate) still: Vec<Vec<u64>>,
 }
 
 /// Whether two numbers are together at most so many.
@@ -48,44 +33,32 @@ pub(crate) fn all_fit(first: u64, second: u64, third: u64, most: u64) -> bool
     fits(first, second, most) && third <= most - first - second
 }
 
-/// What the notification or endpoint costs: nothing where nobody of the level takes.
-fn price_among(prices: &[Price], object: u32) -> u64
-    ensures { result ≡ option_map_or (λ p. p.price) (find (λ p. p.object == object) prices.now) 0 }
+/// What is still to be set going from a run on.
+fn still_among(runs: Option<&Vec<u64>>, place: usize) -> u64
+    ensures { result ≡ option_map_or (λ numbers. number_at numbers.now.items place) runs.entry 0 }
 {
-    for price in prices {
-        if price.object == object {
-            return price.price;
-        }
-    }
-    0
-}
-
-/// What is still to be set going from a point on.
-fn still_among(points: Option<&Vec<u64>>, point: usize) -> u64
-    ensures { result ≡ option_map_or (λ numbers. number_at numbers.now.items point) points.entry 0 }
-{
-    match points {
-        Some(points) => number_at(points.as_slice(), point),
+    match runs {
+        Some(runs) => number_at(runs.as_slice(), place),
         None => 0,
     }
 }
 
 impl Weights {
     /// What the notification or endpoint at an offset costs.
-    pub fn price_of(&self, object: u32) -> u64
-        ensures { result ≡ price_in self.now.prices.items object }
+    pub(crate) fn price_of(&self, object: u32) -> u64
+        ensures { result ≡ price_in self.now.prices object }
     {
-        price_among(self.prices.as_slice(), object)
+        self.prices.of_object(object)
     }
 
-    /// What a thread has still to set going from a point on.
-    pub fn still(&self, thread: u32, point: usize) -> u64
-        ensures { result ≡ (weights_of self.now).still thread point }
+    /// What a thread has still to set going from a run on.
+    pub(crate) fn still(&self, thread: u32, place: usize) -> u64
+        ensures { result ≡ (weights_of self.now).still thread place }
     {
-        still_among(self.still.get(thread as usize), point)
+        still_among(self.still.get(thread as usize), place)
     }
 
-    /// Whether they pay for what a point of a thread with this budget asks, and for the answer if it calls, from what is still to be set going
+    /// Whether they pay for what a run of a thread with this budget asks, and for the answer if it calls, from what is still to be set going
     /// there and after it.
     pub(crate) fn pay_for(&self, budget: u64, here: u64, next: u64, ask: Ask) -> bool
         ensures { result ≡ pays_wholly (weights_of self.now) budget here next (asked ask) }
@@ -116,9 +89,19 @@ pub(crate) fn number_at(numbers: &[u64], place: usize) -> u64
     }
 }
 
+/// Whether a place is marked.
+pub(crate) fn mark_at(marks: &[bool], place: usize) -> bool
+    ensures { result ≡ mark_at marks.now place }
+{
+    match marks.get(place) {
+        Some(mark) => *mark,
+        None => false,
+    }
+}
+
 /// Whether a number is one of these.
 pub(crate) fn is_one_of(numbers: &[u32], number: u32) -> bool
-    ensures { result ≡ list_any (λ n. n == number) numbers.now }
+    ensures { result ≡ is_among numbers.now number }
 {
     numbers.iter().any(|other| *other == number)
 }

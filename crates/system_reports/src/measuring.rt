@@ -91,7 +91,7 @@ fn levels_of(alloc: Global, responses: &[ResponseRow<'_>]) -> Result<Vec<LevelCo
 
 /// The endpoint to which a point sends or calls, by its offset.
 fn door_at(view: &ProgramView, point: usize) -> Option<u32> {
-    let Some(PointView::Seen(seen)) = view.points.get(point) else {
+    let PointView::Seen(seen) = view.points.at(point) else {
         return None;
     };
     match (seen.call, seen.capability) {

@@ -6,5 +6,5 @@ use Rattle.responses.specs.Checks.{is_rated}
 
 abbrev pub invariant-loop-line : goal.invariant-loop-line
 invariant-loop-line l =
-    list_all (is_rated l.weights.prices.items l.bells l.rates) (range_with_len l.line (l.count - l.line))
-    ≡ list_all (is_rated l.weights.prices.items l.bells l.rates) (range_with_len 0 l.count)
+    list_all (is_rated l.weights.prices l.bells l.rates) (range_with_len l.line (l.count - l.line))
+    ≡ list_all (is_rated l.weights.prices l.bells l.rates) (range_with_len 0 l.count)

@@ -6,5 +6,5 @@ use Rattle.responses.specs.Checks.{price_of_line}
 
 abbrev pub invariant-loop-rate : goal.invariant-loop-rate
 invariant-loop-rate l =
-    l.sum + total (λ r. (r.burst + l.steps / r.period) * price_of_line l.weights.prices.items l.bells r.line) (drop l.rate-index l.rates)
-    ≡ total (λ r. (r.burst + l.steps / r.period) * price_of_line l.weights.prices.items l.bells r.line) l.rates
+    l.sum + total (λ r. (r.burst + l.steps / r.period) * price_of_line l.weights.prices l.bells r.line) (drop l.rate-index l.rates)
+    ≡ total (λ r. (r.burst + l.steps / r.period) * price_of_line l.weights.prices l.bells r.line) l.rates

@@ -2,7 +2,7 @@
 use Rattle.std.proofs.Common.{◌≡◌, ◌+◌, drop}
 use Rattle.response.specs.Left.{total}
 use Rattle.responses.proofs.sums.owed_at_rest.Given as goal
-use Rattle.responses.specs.Found.{number_at}
+use Rattle.responses.specs.Numbers.{number_at}
 
 abbrev pub invariant-loop-program : goal.invariant-loop-program
 invariant-loop-program l =
