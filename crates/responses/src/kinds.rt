@@ -8,10 +8,10 @@ use program_rules::{PointView, PointViews};
 use std::alloc::{AllocError, Global};
 
 /// How often points that ask the same are told apart where they lead to different runs, before all are.
-const ROUNDS: usize = 8;
+const ROUNDS: usize = 4;
 
 /// How often the points that ask nothing are gone through in a round, before each of them is a run of its own.
-const SWEEPS: usize = 16;
+const SWEEPS: usize = 8;
 
 /// The points at which stretches end, as their places tell: from there ways lead elsewhere, or something is asked. All points of a stretch come to its end.
 #[derive(Drop)]
